@@ -1,0 +1,6 @@
+pub mod Integers
+pub mod Members
+pub mod Linear
+pub mod Sums
+pub mod Closed
+pub mod Quadrant
