@@ -3,4 +3,5 @@ pub mod Members
 pub mod Linear
 pub mod Sums
 pub mod Closed
-pub mod Quadrant
+pub mod PlaneRays
+pub mod Cuts

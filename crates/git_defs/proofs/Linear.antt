@@ -6,7 +6,7 @@ use Rattle.std.proofs.lemmas.Int.{ints}
 use Rattle.git_defs.specs.Vectors.{Vector, zero_vector, scale, plus, dot, combination}
 use Rattle.git_defs.specs.Cones.{InCone}
 use Rattle.git_defs.proofs.Members.{Member, OfLength, first_of_length, rest_of_length}
-use Rattle.git_defs.proofs.Integers.{diff, diff_add, diff_mul, diff_same, add_nonneg, mul_nonneg, nonneg_of_mul}
+use Rattle.git_defs.proofs.Integers.{mul_comm, diff, diff_add, diff_mul, diff_same, add_nonneg, mul_nonneg, nonneg_of_mul}
 
 step_plus : (n x y d e : ℤ) → n *ℤ (x +ℤ y) +ℤ (d +ℤ e) ≡ (n *ℤ x +ℤ d) +ℤ (n *ℤ y +ℤ e)
 step_plus n x y d e = diff_same (diff_add (diff_mul (diff n) (diff_add (diff x) (diff y))) (diff_add (diff d) (diff e)))
@@ -32,6 +32,12 @@ dot-scale [] c [] = sym (*ℤ-zero c)
 dot-scale [] c (x ∷ v) = sym (*ℤ-zero c)
 dot-scale (m ∷ n) c [] = sym (*ℤ-zero c)
 dot-scale (m ∷ n) c (x ∷ v) = ap (λ (z : ℤ). m *ℤ (c *ℤ x) +ℤ z) (dot-scale n c v) ∙ step_scale m c x (dot n v)
+
+pub dot-comm : (u v : Vector) → dot u v ≡ dot v u
+dot-comm [] [] = refl
+dot-comm [] (y ∷ v) = refl
+dot-comm (x ∷ u) [] = refl
+dot-comm (x ∷ u) (y ∷ v) = λ i. mul_comm x y i +ℤ dot-comm u v i
 
 pub dot-zero : (n : Vector) (k : ℕ) → dot n (zero_vector k) ≡ pos 0
 dot-zero [] zero = refl

@@ -1,5 +1,5 @@
 -- Cones are closed under sums and multiples.
-use Rattle.std.proofs.Common.{◌≡◌, ℕ, zero, suc, ◌+◌, ◌*◌, ◌<◌, List, [], ◌∷◌, length, map, get_or, refl, sym, ◌∙◌, ap, subst, arith}
+use Rattle.std.proofs.Common.{◌≡◌, ℕ, zero, suc, ◌+◌, ◌*◌, ◌<◌, List, [], ◌∷◌, length, map, refl, sym, ◌∙◌, ap, arith}
 use Rattle.std.proofs.Math.IntN.{ℤ, pos, ◌+ℤ◌, ◌*ℤ◌, *ℤ-zero, zero-*ℤ, +ℤ_idr, +ℤ_idl, pos-*ℤ-pos}
 use Rattle.std.proofs.Math.Nat.{mul-le-mul}
 use Rattle.git_defs.specs.Vectors.{Vector, zero_vector, scale, plus, combination}

@@ -1,5 +1,5 @@
 -- Faces of the orthant by masks, and the distinct cones of the full ones that a test accepts.
-use Rattle.std.specs.Prelude.{◌≡◌, ◌↔◌, ℕ, ◌<◌, ◌≤◌, ◌^◌, ◌%◌, ◌/◌, ◌==◌, if◌then◌else◌, List, [], ◌∷◌, length, slice_index, Contains, AllPairs}
+use Rattle.std.specs.Prelude.{◌↔◌, ℕ, ◌<◌, ◌≤◌, ◌^◌, ◌%◌, ◌/◌, ◌==◌, if◌then◌else◌, List, [], ◌∷◌, length, slice_index, Contains, AllPairs}
 use Rattle.git_defs.specs.Vectors.{Vector, HasRank}
 use Rattle.git_defs.specs.Cones.{InCone, SameSet}
 
