@@ -1,0 +1,11 @@
+pub mod Sizes
+pub mod Dots
+pub mod Padding
+pub mod Contents
+pub mod Built
+pub mod ZeroSums
+pub mod Turns
+pub mod Wedges
+pub mod PlaneRanks
+pub mod Ends
+pub mod PlaneGradings

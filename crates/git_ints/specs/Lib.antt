@@ -1,0 +1,5 @@
+pub mod Padded
+pub mod Order
+pub mod Content
+pub mod Plane
+pub mod Gradings

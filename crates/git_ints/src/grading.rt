@@ -1,0 +1,103 @@
+//! Gradings: matrices whose columns span, and whose cone is pointed.
+ghost use Rattle.std.specs.Prelude.{◌≡◌, ◌≤◌, ◌<◌, ◌^◌, ◌↔◌, ℕ, length, slice_get, Some, IfOk, IsErrOf, IsTrue, All};
+ghost use Rattle.git_defs.specs.Vectors.{AllOfLength, HasRank, HasZeroSum};
+ghost use Rattle.git_defs.specs.Faces.{IsFull};
+ghost use Rattle.git_ints.specs.Padded.{AreWithin};
+ghost use Rattle.git_ints.specs.Gradings.{IsMatrix, IsGrading};
+
+use crate::plane::{has_turns, has_wedge};
+use crate::vector::IVec;
+use std::alloc::Global;
+use std::marker::Model;
+
+/// A matrix of one to six rows and one to sixteen columns, with entries from -1000 to 1000. As many of
+/// its columns as it has rows are independent, and no sum of columns with natural numbers, not all 0, is
+/// 0. Column `i` is the degree of the variable `T(i + 1)`.
+#[derive(Drop)]
+pub struct Grading {
+    k: usize,
+    columns: Vec<IVec>,
+}
+
+impl Model for Grading {
+    ghost use Rattle.git_ints.specs.Gradings.{Degrees, IsGrading};
+
+    ghost Value = { Degrees };
+
+    ghost view = { λ g. record { k = g.k; columns = g.columns.items } };
+
+    ghost invariant = { λ g. IsGrading g.k g.columns.items };
+}
+
+/// Why columns are no grading.
+#[derive(Clone, Copy, Debug, PartialEq, Eq)]
+pub enum GradingFault {
+    /// Fewer columns are independent than there are rows.
+    Rank,
+    /// Natural numbers, not all 0, make the columns sum to 0.
+    Pointed,
+    /// Memory ran out.
+    NoMemory,
+}
+
+impl Grading {
+    /// The grading with `k` rows and these columns. So far `k` has to be 2.
+    pub fn of(_alloc: Global, k: usize, columns: Vec<IVec>) -> Result<Grading, GradingFault>
+        requires two { k ≡ 2 }
+        requires matrix { IsMatrix k columns.items }
+        ensures value { IfOk result (λ g. (g.k ≡ k) × (g.columns ≡ columns.items)) }
+        ensures grading { IfOk result (λ g. IsGrading k columns.items) }
+        ensures rank { IsErrOf result GradingFault.Rank → (HasRank k columns.items → ⊥) }
+        ensures pointed { IsErrOf result GradingFault.Pointed → HasRank k columns.items × HasZeroSum k columns.items }
+    {
+        if !has_turns(&columns, u16::MAX) {
+            return Err(GradingFault::Rank);
+        }
+        if !has_wedge(&columns) {
+            return Err(GradingFault::Pointed);
+        }
+        Ok(Grading { k, columns })
+    }
+
+    /// The number of rows.
+    pub fn k(&self) -> usize
+        ensures value { result ≡ self.now.k }
+        ensures grading { IsGrading self.now.k self.now.columns }
+    {
+        let _ = &self.columns;
+        self.k
+    }
+
+    /// The number of columns.
+    pub fn r(&self) -> usize
+        ensures value { result ≡ length self.now.columns }
+        ensures grading { IsGrading self.now.k self.now.columns }
+    {
+        self.columns.len()
+    }
+
+    /// The column at place `i`, counted from 0.
+    pub fn column(&self, i: usize) -> IVec
+        requires { i < length self.now.columns }
+        ensures { slice_get self.now.columns i ≡ Some result }
+    {
+        self.columns[i]
+    }
+
+    /// All columns.
+    pub fn columns(&self) -> &[IVec]
+        ensures { result.now ≡ self.now.columns }
+    {
+        &self.columns
+    }
+
+    /// Whether as many columns of the face as there are rows are independent. Bit `i` of the mask stands
+    /// for column `i`, and no bit past the columns is set. So far the grading has to have two rows.
+    pub fn full(&self, mask: u16) -> bool
+        requires two { self.now.k ≡ 2 }
+        requires in_range { mask < 2 ^ length self.now.columns }
+        ensures { IsTrue result ↔ IsFull self.now.k self.now.columns mask }
+    {
+        has_turns(&self.columns, mask)
+    }
+}

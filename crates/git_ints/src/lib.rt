@@ -1,0 +1,17 @@
+//! Vectors of one to six integers, exact in 128 bits, and gradings: matrices whose columns have full
+//! rank and a pointed cone. Stands on the definitions of vectors and cones; every layer that computes
+//! with vectors stands on it.
+#![tactic(auto)]
+
+mod arithmetic;
+mod content;
+mod grading;
+mod plane;
+mod vector;
+
+pub use grading::{Grading, GradingFault};
+pub use plane::turn;
+pub use vector::IVec;
+
+#[cfg(test)]
+mod tests;
