@@ -1,10 +1,9 @@
 -- Gradings with two rows, by the turns of their columns.
-use Rattle.std.proofs.Common.{◌≡◌, ◌⊎◌, ℕ, zero, suc, ◌<◌, ◌≤◌, ◌^◌, ◌%◌, ◌/◌, Bool, true, false, List, [], ◌∷◌, length, get_or, refl, sym, ◌∙◌, ap, subst, arith, inl, inr, lit≤}
-use Rattle.std.specs.Prelude.{IsTrue, ◌↔◌, All, Contains, ◌==◌, if◌then◌else◌}
+use Rattle.std.proofs.Common.{◌≡◌, ℕ, ◌≤◌, ◌^◌, ◌%◌, ◌/◌, Bool, true, false, List, [], ◌∷◌, sym, subst, arith, inl, inr, lit≤}
+use Rattle.std.specs.Prelude.{IsTrue, ◌↔◌, ◌==◌, if◌then◌else◌}
 use Rattle.git_defs.specs.Vectors.{Vector, AllOfLength, HasRank, HasZeroSum}
 use Rattle.git_defs.specs.Faces.{face, IsFull}
-use Rattle.git_defs.proofs.Members.{Member, OfLength, all_of_length, of_length_all}
-use Rattle.git_ints.specs.Padded.{AreWithin}
+use Rattle.git_defs.proofs.Members.{Member, OfLength, all_of_length}
 use Rattle.git_ints.specs.Plane.{ArePlane, HasWedge, HasTurns}
 use Rattle.git_ints.specs.Gradings.{IsMatrix, IsGrading}
 use Rattle.git_ints.proofs.Ends.{whole_face}

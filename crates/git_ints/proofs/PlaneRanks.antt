@@ -1,14 +1,14 @@
 -- Two vectors of the plane are independent where they turn.
-use Rattle.std.proofs.Common.{◌≡◌, ◌⊎◌, ℕ, zero, suc, ◌<◌, List, [], ◌∷◌, length, refl, sym, ◌∙◌, ap, subst, arith, inl, inr}
-use Rattle.std.specs.Prelude.{◌≤ℤ◌, ◌<ℤ◌, All, Contains}
+use Rattle.std.proofs.Common.{◌≡◌, zero, suc, List, [], ◌∷◌, length, refl, ◌∙◌, arith}
+use Rattle.std.specs.Prelude.{All, Contains}
 use Rattle.std.proofs.Math.IntN.{ℤ, pos, negsuc, ◌+ℤ◌, ◌-ℤ◌, ◌*ℤ◌, neg_ℤ}
 use Rattle.std.proofs.lemmas.Int.{ints}
 use Rattle.std.proofs.lemmas.List.Elements.{All-nil, All-cons}
-use Rattle.git_defs.specs.Vectors.{Vector, zero_vector, scale, plus, combination, AreIndependent, HasRank}
+use Rattle.git_defs.specs.Vectors.{Vector, zero_vector, combination, AreIndependent, HasRank}
 use Rattle.git_defs.proofs.Integers.{diff, diff_add, diff_neg, diff_sub, diff_mul, diff_same, zero_of_mul}
-use Rattle.git_defs.proofs.Members.{Member, OfLength, member_contains, contains_member}
+use Rattle.git_defs.proofs.Members.{OfLength, contains_member}
 use Rattle.git_defs.proofs.PlaneRays.{first_entry, second_entry}
-use Rattle.git_ints.specs.Plane.{turn, HasTurn, HasTurns}
+use Rattle.git_ints.specs.Plane.{turn, HasTurns}
 use Rattle.git_ints.proofs.Turns.{in_plane}
 
 no_product : (a b : ℤ) → (a ≡ pos 0 → ⊥) → a *ℤ b ≡ pos 0 → b ≡ pos 0

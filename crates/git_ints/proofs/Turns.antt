@@ -1,14 +1,14 @@
 -- Identities of turns, and what lies between two vectors of the plane.
-use Rattle.std.proofs.Common.{◌≡◌, ◌⊎◌, ℕ, zero, suc, List, [], ◌∷◌, length, refl, sym, ◌∙◌, ap, subst, arith, inl, inr}
+use Rattle.std.proofs.Common.{◌≡◌, [], ◌∷◌, length, refl, sym, ◌∙◌, ap, subst, arith}
 use Rattle.std.specs.Prelude.{◌≤ℤ◌, ◌<ℤ◌}
 use Rattle.std.proofs.Math.IntN.{ℤ, pos, negsuc, ◌+ℤ◌, ◌-ℤ◌, ◌*ℤ◌, neg_ℤ}
 use Rattle.std.proofs.lemmas.Int.{ints}
 use borrow.Author.Differences.{up}
 use Rattle.git_defs.specs.Vectors.{Vector, scale, dot}
 use Rattle.git_defs.specs.Cones.{InCone}
-use Rattle.git_defs.proofs.Integers.{diff, diff_add, diff_neg, diff_sub, diff_mul, diff_same, mul_nonneg, mul_pos, pos_of_mul}
-use Rattle.git_defs.proofs.PlaneRays.{Plane, plane_of}
-use Rattle.git_ints.specs.Plane.{turn, LiesBetween}
+use Rattle.git_defs.proofs.Integers.{diff, diff_add, diff_neg, diff_sub, diff_mul, diff_same}
+use Rattle.git_defs.proofs.PlaneRays.{plane_of}
+use Rattle.git_ints.specs.Plane.{turn}
 
 abbrev cross : ℤ → ℤ → ℤ → ℤ → ℤ
 cross a b c d = a *ℤ d -ℤ b *ℤ c

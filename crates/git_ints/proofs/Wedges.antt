@@ -1,16 +1,16 @@
 -- Vectors of the plane that do not all lie on a line lie between two of them, or natural numbers, not all 0, make them sum to 0.
-use Rattle.std.proofs.Common.{◌≡◌, ◌⊎◌, ℕ, zero, suc, List, [], ◌∷◌, length, refl, sym, ◌∙◌, ap, subst, arith, inl, inr}
-use Rattle.std.specs.Prelude.{◌≤ℤ◌, ◌<ℤ◌, All, Contains}
+use Rattle.std.proofs.Common.{◌≡◌, ◌⊎◌, zero, suc, List, [], ◌∷◌, length, refl, sym, ◌∙◌, ap, subst, arith, inl, inr}
+use Rattle.std.specs.Prelude.{◌≤ℤ◌, ◌<ℤ◌}
 use Rattle.std.proofs.Math.IntN.{ℤ, pos, negsuc, ◌+ℤ◌, ◌-ℤ◌, ◌*ℤ◌, neg_ℤ}
 use Rattle.std.proofs.lemmas.Int.{ints}
 use borrow.Author.Differences.{up}
-use Rattle.git_defs.specs.Vectors.{Vector, zero_vector, scale, plus, dot, HasZeroSum}
-use Rattle.git_defs.specs.Cones.{InCone, OnRay}
+use Rattle.git_defs.specs.Vectors.{Vector, zero_vector, scale, dot, HasZeroSum}
+use Rattle.git_defs.specs.Cones.{InCone}
 use Rattle.git_defs.proofs.Integers.{diff, diff_add, diff_neg, diff_sub, diff_mul, diff_same, mul_nonneg, mul_pos, pos_of_mul, zero_of_mul}
-use Rattle.git_defs.proofs.Members.{Member, OfLength, first_of_length, rest_of_length, more_of_length, none_of_length, member_contains, contains_member, all_member, member_all}
-use Rattle.git_defs.proofs.Linear.{dot-plus, length-scale, length-plus}
-use Rattle.git_defs.proofs.Closed.{IsClosed, closed_cone, cone_closed, cone_has, sign_of, positive_or_zero}
-use Rattle.git_ints.specs.Plane.{turn, LiesBetween, HasWedge, HasTurn, HasTurns}
+use Rattle.git_defs.proofs.Members.{Member, OfLength, first_of_length, rest_of_length, member_contains, contains_member, all_member, member_all}
+use Rattle.git_defs.proofs.Linear.{length-scale}
+use Rattle.git_defs.proofs.Closed.{closed_cone, cone_closed, cone_has, sign_of, positive_or_zero}
+use Rattle.git_ints.specs.Plane.{turn, LiesBetween, HasWedge, HasTurns}
 use Rattle.git_ints.proofs.ZeroSums.{zero_sum_later, zero_sum_of_negative, positive_no_zero_sum}
 use Rattle.git_ints.proofs.Turns.{in_plane, between_in_cone, turn-self, turn-swap, turn-negative, negative-turn, turn-exchange, turn-lagrange}
 

@@ -1,6 +1,6 @@
 -- Natural numbers with which vectors sum to 0: from a negative in their cone, and never beside a functional that is positive on them all.
 use Rattle.std.proofs.Common.{◌≡◌, ℕ, zero, suc, ◌<◌, List, [], ◌∷◌, length, map, refl, sym, ◌∙◌, ap, subst, arith, inl, inr}
-use Rattle.std.specs.Prelude.{◌≤ℤ◌, ◌<ℤ◌, slice_index}
+use Rattle.std.specs.Prelude.{◌<ℤ◌, slice_index}
 use Rattle.std.proofs.Math.IntN.{ℤ, pos, negsuc, ◌+ℤ◌, ◌*ℤ◌}
 use Rattle.std.proofs.lemmas.Int.{ints}
 use Rattle.git_defs.specs.Vectors.{Vector, zero_vector, scale, plus, dot, combination, HasZeroSum}
@@ -8,7 +8,7 @@ use Rattle.git_defs.specs.Cones.{InCone}
 use Rattle.git_defs.proofs.Integers.{diff, diff_add, diff_mul, diff_same, mul_nonneg, mul_pos}
 use Rattle.git_defs.proofs.Members.{Member, OfLength, first_of_length, rest_of_length}
 use Rattle.git_defs.proofs.Linear.{dot-plus, dot-scale, dot-zero, length-scale, length-combination, combination_beside}
-use Rattle.git_defs.proofs.Sums.{scale-plus, scale-zero, scale_none, plus-zero, zero-plus}
+use Rattle.git_defs.proofs.Sums.{scale-plus, scale-zero, scale_none, plus-zero}
 
 -- one vector more, with the number 0
 pub zero_sum_later : (k : ℕ) (v : Vector) (vs : List Vector) → OfLength k (v ∷ vs) → HasZeroSum k vs → HasZeroSum k (v ∷ vs)

@@ -1,5 +1,5 @@
 -- The greatest common divisor of a vector's entries, and the primitive vector on its ray.
-use Rattle.std.specs.Prelude.{◌≡◌, ◌≢◌, ℕ, ◌<◌, List, ℤ, pos, All, length}
+use Rattle.std.specs.Prelude.{◌≡◌, ◌≢◌, ℕ, ◌<◌, pos, All, length}
 use Rattle.std.specs.Int.RustNames.{unsigned_abs}
 use Rattle.std.specs.Int.{◌∣◌}
 use Rattle.git_defs.specs.Vectors.{Vector, zero_vector, scale, IsPrimitive}

@@ -1,5 +1,5 @@
 -- Gradings: matrices by their columns.
-use Rattle.std.specs.Prelude.{◌≡◌, ℕ, ◌≤◌, List, length, All}
+use Rattle.std.specs.Prelude.{ℕ, ◌≤◌, List, length, All}
 use Rattle.git_defs.specs.Vectors.{Vector, AllOfLength, HasRank, HasZeroSum}
 use Rattle.git_ints.specs.Padded.{AreWithin}
 

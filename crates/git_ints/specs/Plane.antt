@@ -1,5 +1,5 @@
 -- Turns from one vector of the plane to another.
-use Rattle.std.specs.Prelude.{◌^◌, ◌≡◌, ◌≢◌, List, [], ◌∷◌, ℤ, pos, ◌*ℤ◌, ◌≤ℤ◌, ◌<ℤ◌, Contains, All}
+use Rattle.std.specs.Prelude.{◌^◌, ◌≢◌, List, [], ◌∷◌, ℤ, pos, ◌*ℤ◌, ◌≤ℤ◌, ◌<ℤ◌, Contains, All}
 use Rattle.std.proofs.Math.IntN.{◌-ℤ◌, ◌+ℤ◌}
 use Rattle.git_defs.specs.Vectors.{Vector, AllOfLength}
 use Rattle.git_ints.specs.Padded.{AreWithin}

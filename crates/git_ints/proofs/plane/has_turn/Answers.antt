@@ -1,6 +1,5 @@
-use Rattle.std.proofs.Common.{◌≡◌, ◌+◌, ◌/◌, List, ◌∷◌, drop, refl, sym, subst, arith}
+use Rattle.std.proofs.Common.{List, refl, sym, subst}
 use Rattle.git_defs.specs.Vectors.{Vector}
-use Rattle.git_defs.specs.Faces.{face}
 use Rattle.git_ints.specs.Plane.{HasTurn}
 use Rattle.git_ints.proofs.Ends.{face_from_with, face_from_without, first_turn, later_turn, not_first_turn}
 use Rattle.git_ints.proofs.plane.has_turn.Goals.{else-rest-eq1-via-then-rest-eq1+else-turns, else-rest-eq1-via-else-rest-eq1}

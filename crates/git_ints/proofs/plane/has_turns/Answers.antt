@@ -1,4 +1,4 @@
-use Rattle.std.proofs.Common.{◌≡◌, ◌+◌, ◌/◌, List, ◌∷◌, drop, refl, sym, subst, arith}
+use Rattle.std.proofs.Common.{List, refl, sym, subst}
 use Rattle.git_defs.specs.Vectors.{Vector}
 use Rattle.git_defs.specs.Faces.{face}
 use Rattle.std.proofs.lemmas.List.{drop_all}

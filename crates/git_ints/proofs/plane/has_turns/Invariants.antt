@@ -1,7 +1,5 @@
 use Rattle.std.proofs.Common.{drop}
-use Rattle.git_defs.specs.Vectors.{Vector}
 use Rattle.git_defs.specs.Faces.{face}
-use Rattle.git_ints.specs.Plane.{HasTurn}
 use Rattle.git_ints.proofs.Ends.{SomeTurns}
 use Rattle.git_ints.proofs.plane.has_turns.Given as goal
 

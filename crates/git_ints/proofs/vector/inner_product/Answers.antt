@@ -2,7 +2,7 @@ use Rattle.std.proofs.Common.{◌≡◌, ◌+◌, ◌*◌, ◌^◌, ◌≤◌, g
 use Rattle.std.specs.Int.{w128}
 use Rattle.std.proofs.Math.IntN.{ℤ, pos, ◌+ℤ◌, ◌*ℤ◌}
 use Rattle.std.specs.Int.RustNames.{unsigned_abs}
-use Rattle.git_ints.proofs.Sizes.{kept, kept_within, kept_term, term_within, abs_add_le}
+use Rattle.git_ints.proofs.Sizes.{kept, kept_within, kept_term, abs_add_le}
 use Rattle.git_ints.proofs.Dots.{dot_more}
 use Rattle.git_ints.proofs.vector.inner_product.Goals as goal
 

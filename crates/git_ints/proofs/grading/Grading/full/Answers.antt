@@ -1,4 +1,4 @@
-use Rattle.std.proofs.Common.{List, subst, ap, ◌∙◌, sym}
+use Rattle.std.proofs.Common.{List, subst, ap, ◌∙◌}
 use Rattle.std.specs.Prelude.{IsTrue, ◌↔◌}
 use Rattle.git_defs.specs.Vectors.{Vector}
 use Rattle.git_defs.specs.Faces.{face, IsFull}

@@ -1,9 +1,9 @@
-use Rattle.std.proofs.Common.{◌≡◌, ◌≤◌, ◌<◌, ◌+◌, ◌^◌, ℕ, length, get_or, sym, ◌∙◌, ap, subst, arith, lit≤, to_z, of_z, length-set}
+use Rattle.std.proofs.Common.{◌≡◌, ◌≤◌, ◌^◌, length, get_or, sym, ◌∙◌, ap, subst, arith, lit≤, to_z, of_z, length-set}
 use Rattle.std.specs.Int.{w128}
 use Rattle.std.specs.Int.RustNames.{unsigned_abs}
 use Rattle.std.proofs.Math.IntN.{ℤ, pos, ◌+ℤ◌, ◌*ℤ◌}
 use Rattle.std.proofs.lemmas.Int.{to_z-of_z}
-use Rattle.git_defs.specs.Vectors.{Vector, plus, scale}
+use Rattle.git_defs.specs.Vectors.{plus, scale}
 use Rattle.git_ints.specs.Padded.{AreWithin}
 use Rattle.git_ints.proofs.Built.{built_blend, set_each}
 use Rattle.git_ints.proofs.Sizes.{kept, kept_within, blend_within}
