@@ -1,10 +1,10 @@
 -- What follows from how far the bytes of a source and a sink have come, for the crates above.
-use Rattle.std.proofs.Common.{ℕ, ◌+◌, ◌≤◌, ◌≡◌, List, [], ◌++◌, length, take, min, sym, subst, ap, ◌∙◌, arith}
+use Rattle.std.proofs.Common.{ℕ, ◌+◌, ◌≡◌, List, [], ◌++◌, length, take, min, sym, subst, arith}
 use Rattle.std.proofs.Math.Seq.{take-length, take-append-add}
 use Rattle.std.proofs.lemmas.Grind.{common_steps}
 use Rattle.std.proofs.KnownBytes.{Consumes-nil, Consumes-trans, Consumes-kept, Appends-nil, Appends-trans, Appends-kept}
 use Rattle.std.specs.declared.option.Option.{Option}
-use Rattle.std.specs.Io.KnownBytes.{Keeps, Consumes, Appends}
+use Rattle.std.specs.Io.KnownBytes.{Keeps, Appends}
 use Rattle.git_base.specs.Fronts.{LosesFront, GrowsByFront}
 
 -- bytes that stay have lost a front of none

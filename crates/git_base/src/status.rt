@@ -16,7 +16,7 @@ pub enum Status {
     Monomial,
     /// A cone has a vector with too large an entry, or too many vectors.
     Wide,
-    /// The weight of a chamber lies outside a cone that holds the chamber, or the other way round.
+    /// The weight of a chamber lies in a cone that doesn't hold the chamber, or the other way round.
     Crossed,
     /// More chambers are reached than the table may hold.
     Full,
@@ -24,7 +24,7 @@ pub enum Status {
     Steps,
     /// A computation of a basis met a degree past the limit of exponents.
     Degree,
-    /// The table and the width of its entries together pass the limit of memory.
+    /// The table would take more memory than the program allows it.
     TableWide,
     /// A read failed.
     ReadFault,
