@@ -1,0 +1,10 @@
+pub mod Slices
+pub mod FirstToken
+pub mod FirstLine
+pub mod FirstPart
+pub mod Loops
+pub mod Exact
+pub mod ManyLines
+pub mod NumberLemmas
+pub mod WordLemmas
+pub mod FieldLemmas

@@ -1,0 +1,42 @@
+-- What holds of lines, words and integers.
+use Rattle.std.specs.Prelude.{◌≡◌, ℕ, ◌<◌, ◌^◌, List, [], ◌∷◌, ℤ, Some}
+use Rattle.std.specs.List.{concat, AllByRecursion}
+use Rattle.std.specs.Int.RustNames.{unsigned_abs}
+use Rattle.std.specs.Fmt.{signed_decimal}
+use Rattle.git_lines.specs.Lines.{lines_of}
+use Rattle.git_lines.specs.Tokens.{words}
+use Rattle.git_lines.specs.Numbers.{integer, integer_once}
+use Rattle.git_lines.specs.Printing.{IsWord, spaced}
+use Rattle.git_lines.specs.Strict.{fields}
+
+-- a text's lines joined are the text
+abbrev pub LinesMakeTheText : Type 0
+LinesMakeTheText = (bytes : List ℕ) → concat (lines_of bytes) ≡ bytes
+
+-- words that are printed with a space between each two are read back
+abbrev pub WordsAreReadBack : Type 0
+WordsAreReadBack = (ts : List (List ℕ)) → AllByRecursion IsWord ts → words (spaced ts) ≡ ts
+
+-- each word of a line has bytes, and none is a space
+abbrev pub WordsHoldNoSpace : Type 0
+WordsHoldNoSpace = (line : List ℕ) → AllByRecursion IsWord (words line)
+
+-- an integer of at most eighteen digits is read back from its decimal spelling
+abbrev pub IntegersAreReadBack : Type 0
+IntegersAreReadBack = (z : ℤ) → unsigned_abs z < 10 ^ 18 → integer (signed_decimal z) ≡ Some z
+
+-- so it is where one spelling alone is allowed
+abbrev pub IntegersAreReadBackOnce : Type 0
+IntegersAreReadBackOnce = (z : ℤ) → unsigned_abs z < 10 ^ 18 → integer_once (signed_decimal z) ≡ Some z
+
+-- and the one spelling is the decimal spelling
+abbrev pub IntegersHaveOneSpelling : Type 0
+IntegersHaveOneSpelling = (text : List ℕ) (z : ℤ) → integer_once text ≡ Some z → text ≡ signed_decimal z
+
+-- a line is its fields with a space between each two
+abbrev pub FieldsMakeTheLine : Type 0
+FieldsMakeTheLine = (line : List ℕ) → spaced (fields line) ≡ line
+
+-- one or more words that are printed with a space between each two are the fields of the line
+abbrev pub FieldsAreReadBack : Type 0
+FieldsAreReadBack = (t : List ℕ) (ts : List (List ℕ)) → AllByRecursion IsWord (t ∷ ts) → fields (spaced (t ∷ ts)) ≡ t ∷ ts

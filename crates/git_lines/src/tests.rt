@@ -1,0 +1,1 @@
+//! Tests of what the definitions mean, by values from outside.
