@@ -1,15 +1,15 @@
 -- What a step of reading takes is what the grammar says, and the other way round.
-use Rattle.std.proofs.Common.{◌≡◌, ℕ, zero, suc, ◌+◌, Bool, true, false, cond, List, [], ◌∷◌, ◌++◌, length, map, ◌&&◌, Option, Some, None, Result, Ok, Err, refl, sym, ap, ◌∙◌, subst, arith}
+use Rattle.std.proofs.Common.{◌≡◌, ℕ, zero, suc, ◌+◌, ◌-◌, Bool, true, false, cond, List, [], ◌∷◌, ◌++◌, length, map, take, ◌&&◌, Option, Some, None, Result, Ok, Err, refl, sym, ap, ◌∙◌, subst, arith}
 use Rattle.std.specs.Prelude.{ℤ, int_le, ◌≤ℤ◌}
 use Rattle.std.specs.Str.{bytes_eq}
 use Rattle.std.proofs.lemmas.Slice.Eq.{bytes_eq-Decides}
 use Rattle.std.proofs.lemmas.Bool.{and_parts, and_from}
 use Rattle.std.proofs.lemmas.Int.{ints}
 use Rattle.git_lines.specs.declared.fault.FormFault.{FormFault}
-use Rattle.git_lines.specs.Lines.{RestOfText, NumberedLine, content, contents}
+use Rattle.git_lines.specs.Lines.{RestOfText, NumberedLine, content, contents, without_last, is_ended}
 use Rattle.git_lines.specs.Tokens.{Token, RestOfLine, taken_of, next_token, texts}
 use Rattle.git_lines.specs.Numbers.{integer}
-use Rattle.git_lines.specs.Reading.{◌>>=◌, lift, fault_at, times, line_at, next_line, line_by, word_in, word_token, integer_within, integer_in, integer_token, nothing_in, no_token}
+use Rattle.git_lines.specs.Reading.{◌>>=◌, lift, times, line_at, next_line, ended_line_at, next_ended_line, line_by, word_in, word_token, integer_within, integer_in, integer_token, nothing_in, no_token}
 use Rattle.git_lines.specs.Grammar.{Together, IsInteger}
 
 -- ---- a value out of steps that follow one another
@@ -199,16 +199,53 @@ at_again line (raw ∷ ls) t ts e =
     let head : content raw ≡ t = cc e in
     (record { line = line + 1; lines = ls }, ap (λ c. Ok (record { number = line; text = c }, record { line = line + 1; lines = ls })) head, cc e)
 
-pub line_steps : {A E : Type 0} (as_fault : FormFault → E) (read : ℕ → List ℕ → Result A E) (P : List ℕ → A → Type 0) → ReadsLine read P → Steps (line_by as_fault read) contents P
-unfolding line_by next_line
-line_steps as_fault read P reads = record {
+-- the line that is read next is the first of the lines that are left
+pub record NextLine (next : RestOfText → Result (NumberedLine × RestOfText) FormFault) (lines : RestOfText → List (List ℕ)) : Type 0 where
+  pub takes : (s after : RestOfText) (l : NumberedLine) → next s ≡ Ok (l, after) → lines s ≡ l.text ∷ lines after
+  pub again : (s : RestOfText) (t : List ℕ) (ts : List (List ℕ)) → lines s ≡ t ∷ ts → (after : RestOfText) × (next s ≡ Ok (record { number = s.line; text = t }, after)) × (lines after ≡ ts)
+
+pub line_steps : {A E : Type 0} (next : RestOfText → Result (NumberedLine × RestOfText) FormFault) (lines : RestOfText → List (List ℕ)) (as_fault : FormFault → E) (read : ℕ → List ℕ → Result A E) (P : List ℕ → A → Type 0)
+    → NextLine next lines → ReadsLine read P → Steps (line_by next as_fault read) lines P
+unfolding line_by
+line_steps next lines as_fault read P first reads = record {
   takes = λ s after a e.
-      let l = bind_ok (lift as_fault (line_at s.line s.lines)) (λ l. read l.0.number l.0.text >>= λ a. Ok (a, l.1)) (a, after) e in
+      let l = bind_ok (lift as_fault (next s)) (λ l. read l.0.number l.0.text >>= λ a. Ok (a, l.1)) (a, after) e in
       let r = bind_ok (read l.0.0.number l.0.0.text) (λ a. Ok (a, l.0.1)) (a, after) l.2 in
       let p = ok_is (r.0, l.0.1) (a, after) r.2 in
-      let one = at_takes s.line s.lines l.0.0 l.0.1 (lift_ok as_fault _ _ l.1) in
-      (l.0.0.text, one ∙ ap (λ q. l.0.0.text ∷ contents q.1) p, subst (λ q. P l.0.0.text q.0) p (reads.takes l.0.0.number l.0.0.text r.0 r.1));
+      let one = first.takes s l.0.1 l.0.0 (lift_ok as_fault _ _ l.1) in
+      (l.0.0.text, one ∙ ap (λ q. l.0.0.text ∷ lines q.1) p, subst (λ q. P l.0.0.text q.0) p (reads.takes l.0.0.number l.0.0.text r.0 r.1));
   again = λ s t ts a e h.
-      let one = at_again s.line s.lines t ts e in
+      let one = first.again s t ts e in
       (one.0, rw (one.1, reads.again s.line t a h) refl, one.2);
+}
+
+pub lines_next : NextLine next_line contents
+unfolding next_line
+lines_next = record {
+  takes = λ s after l e. at_takes s.line s.lines l after e;
+  again = λ s t ts e. at_again s.line s.lines t ts e;
+}
+
+-- a line that has to end with its line feed
+ended_takes : (line : ℕ) (ls : List (List ℕ)) (l : NumberedLine) (after : RestOfText) → ended_line_at line ls ≡ Ok (l, after)
+    → (raw : List ℕ) × (ls ≡ raw ∷ after.lines) × (l.text ≡ without_last 10 raw) × (is_ended raw ≡ true)
+ended_takes line [] l after e = absurd (cc e)
+ended_takes line (raw ∷ ls) l after e =
+    let g = guard_ok (is_ended raw) _ (record { number = line; text = without_last 10 raw }, record { line = line + 1; lines = ls }) (l, after) e in
+    (raw, ap (λ q. raw ∷ q.1.lines) g.1, sym (ap (λ q. q.0.text) g.1), g.0)
+
+pub ended_steps : {A E : Type 0} (as_fault : FormFault → E) (read : ℕ → List ℕ → Result A E) (P : List ℕ → A → Type 0)
+    → ReadsLine read P → Steps (line_by next_ended_line as_fault read) (λ s. s.lines) (λ raw a. (is_ended raw ≡ true) × P (without_last 10 raw) a)
+unfolding line_by next_ended_line
+ended_steps as_fault read P reads = record {
+  takes = λ s after a e.
+      let l = bind_ok (lift as_fault (ended_line_at s.line s.lines)) (λ l. read l.0.number l.0.text >>= λ a. Ok (a, l.1)) (a, after) e in
+      let r = bind_ok (read l.0.0.number l.0.0.text) (λ a. Ok (a, l.0.1)) (a, after) l.2 in
+      let p = ok_is (r.0, l.0.1) (a, after) r.2 in
+      let one = ended_takes s.line s.lines l.0.0 l.0.1 (lift_ok as_fault _ _ l.1) in
+      (one.0, one.1 ∙ ap (λ q. one.0 ∷ q.1.lines) p, (one.3, subst (λ x. P x a) one.2 (subst (λ q. P l.0.0.text q.0) p (reads.takes l.0.0.number l.0.0.text r.0 r.1))));
+  again = λ s t ts a e h.
+      let front : without_last 10 t ≡ take (length t - 1) t = rw h.0 refl in
+      let one : read s.line (take (length t - 1) t) ≡ Ok a = subst (λ x. read s.line x ≡ Ok a) front (reads.again s.line (without_last 10 t) a h.1) in
+      (record { line = s.line + 1; lines = ts }, rw (e, h.0, one) refl, refl);
 }

@@ -1,15 +1,15 @@
 -- A line is its fields with single spaces.
-use Rattle.std.proofs.Common.{◌≡◌, ◌≢◌, ℕ, zero, suc, ◌+◌, Bool, true, false, cond, List, [], ◌∷◌, ◌++◌, map, ◌&&◌, Option, Some, None, refl, sym, ap, ◌∙◌, arith}
-use Rattle.std.specs.Prelude.{◌==◌, not}
+use Rattle.std.proofs.Common.{◌≡◌, ℕ, ◌+◌, Bool, true, false, cond, List, [], ◌∷◌, ◌++◌, map, Option, Some, None, refl, ap, ◌∙◌, arith}
+use Rattle.std.specs.Prelude.{◌==◌}
 use Rattle.std.specs.List.{list_all, AllByRecursion}
-use Rattle.std.proofs.lemmas.Bool.{and_parts, and_from, eqb-true}
+use Rattle.std.proofs.lemmas.Bool.{and_parts, eqb-true}
 use Rattle.std.proofs.lemmas.List.{append-nil}
 use Rattle.std.proofs.lemmas.Bool.Decides.{nat_tests}
 use Rattle.git_lines.specs.declared.parts.Separator.TheVariants.{Space}
 use Rattle.git_lines.specs.Parts.{Part, grown_part, parts_by, separates}
 use Rattle.git_lines.specs.Printing.{no_space, IsWord, after_spaces, spaced}
 use Rattle.git_lines.specs.Strict.{fields}
-use Rattle.git_lines.proofs.FirstPart.{step_end, step_on, some_part}
+use Rattle.git_lines.proofs.FirstPart.{step_on, some_part}
 
 abbrev texts_of : List Part → List (List ℕ)
 texts_of ps = map (λ p. p.text) ps

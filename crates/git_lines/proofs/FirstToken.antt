@@ -1,8 +1,8 @@
 -- The first token of a text, from where it begins and ends.
-use Rattle.std.proofs.Common.{◌≡◌, ◌≢◌, ℕ, zero, suc, ◌+◌, ◌-◌, ◌==◌, ◌<◌, ◌≤◌, Bool, true, false, List, [], ◌∷◌, length, get_or, take, drop, refl, sym, ◌∙◌, ap, arith, length-drop, Option, Some, None}
+use Rattle.std.proofs.Common.{◌≡◌, ◌≢◌, ℕ, zero, suc, ◌+◌, ◌-◌, ◌==◌, ◌<◌, ◌≤◌, Bool, true, false, List, [], ◌∷◌, length, get_or, take, drop, refl, ◌∙◌, ap, arith, length-drop, Some, None}
 use Rattle.std.proofs.lemmas.Bool.Decides.{nat_tests}
 use Rattle.git_lines.specs.declared.tokens.Joining.{Joining}
-use Rattle.git_lines.specs.Tokens.{Token, RestOfLine, stays, goes_on, grown, tokens_by, joins_in, taken_of, rest_from, next_token}
+use Rattle.git_lines.specs.Tokens.{stays, goes_on, grown, tokens_by, joins_in, rest_from, next_token}
 
 pub step_space : (joins : ℕ → ℕ → Bool) (column b : ℕ) (bytes : List ℕ) → b ≡ 32 → tokens_by joins column (b ∷ bytes) ≡ tokens_by joins (column + 1) bytes
 step_space joins column b bytes e = let space : (b == 32) ≡ true = grind (arith, nat_tests) in rw space refl

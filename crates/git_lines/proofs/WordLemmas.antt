@@ -1,13 +1,13 @@
 -- Words that were printed are read back.
-use Rattle.std.proofs.Common.{◌≡◌, ◌≢◌, ℕ, zero, suc, ◌+◌, ◌<◌, Bool, true, false, cond, List, [], ◌∷◌, ◌++◌, length, map, ◌&&◌, refl, sym, ap, ◌∙◌, arith}
+use Rattle.std.proofs.Common.{◌≡◌, ◌≢◌, ℕ, ◌+◌, Bool, true, false, cond, List, [], ◌∷◌, ◌++◌, refl, ap, ◌∙◌, arith}
 use Rattle.std.specs.Prelude.{◌==◌, not}
 use Rattle.std.specs.List.{list_all, AllByRecursion}
 use Rattle.std.proofs.lemmas.Bool.{and_parts, and_from}
 use Rattle.std.proofs.lemmas.Bool.Decides.{nat_tests}
 use Rattle.git_lines.specs.declared.tokens.Joining.TheVariants.{Words}
-use Rattle.git_lines.specs.Tokens.{Token, stays, goes_on, grown, tokens_by, joins_in, texts, words}
+use Rattle.git_lines.specs.Tokens.{Token, goes_on, grown, tokens_by, joins_in, texts, words}
 use Rattle.git_lines.specs.Printing.{no_space, IsWord, after_spaces, spaced}
-use Rattle.git_lines.proofs.FirstToken.{step_space, step_last, step_more}
+use Rattle.git_lines.proofs.FirstToken.{step_last, step_more}
 
 pub texts_grown : (column b : ℕ) (ts : List Token) (t : List ℕ) (us : List (List ℕ)) → texts ts ≡ t ∷ us → texts (grown column b ts) ≡ (b ∷ t) ∷ us
 texts_grown column b [] t us e = absurd (cc e)

@@ -1,6 +1,7 @@
 -- What a grammar is stated with.
-use Rattle.std.specs.Prelude.{◌≡◌, ℕ, List, [], ◌∷◌, ℤ, ◌≤ℤ◌, Some}
+use Rattle.std.specs.Prelude.{◌≡◌, ℕ, ◌-◌, ◌≤◌, List, [], ◌∷◌, length, take, drop, ℤ, ◌≤ℤ◌, Some}
 use Rattle.git_lines.specs.Numbers.{integer}
+use Rattle.git_lines.specs.Tokens.{Token}
 
 -- the members go together, one by one
 abbrev pub Together : {A B : Type 0} → (A → B → Type 0) → List A → List B → Type 0
@@ -14,3 +15,8 @@ pub record IsInteger (low high : ℤ) (token : List ℕ) (z : ℤ) : Type 0 wher
   pub spelled : integer token ≡ Some z
   pub above : low ≤ℤ z
   pub below : z ≤ℤ high
+
+-- the token stands in the bytes at its column; the first byte has the column that is given
+pub record StandsIn (column : ℕ) (bytes : List ℕ) (t : Token) : Type 0 where
+  pub from : column ≤ t.column
+  pub there : take (length t.text) (drop (t.column - column) bytes) ≡ t.text

@@ -1,5 +1,5 @@
 -- The lines of a text.
-use Rattle.std.specs.Prelude.{ℕ, ◌-◌, ◌==◌, if◌then◌else◌, List, [], ◌∷◌, length, map, take, drop, slice_index}
+use Rattle.std.specs.Prelude.{ℕ, ◌-◌, ◌==◌, Bool, not, if◌then◌else◌, List, [], ◌∷◌, ◌++◌, length, map, take, drop, slice_index}
 
 -- the byte goes before the first line
 abbrev pub onto_first : ℕ → List (List ℕ) → List (List ℕ)
@@ -18,6 +18,17 @@ without_last b bytes = if slice_index bytes (length bytes - 1) == b then take (l
 -- a line without its end: a line feed, and one carriage return before it
 abbrev pub content : List ℕ → List ℕ
 content line = without_last 13 (without_last 10 line)
+
+-- the line ends with a line feed
+abbrev pub is_ended : List ℕ → Bool
+is_ended line = slice_index line (length line - 1) == 10
+
+-- the bytes with a line feed after them
+abbrev pub ended : List ℕ → List ℕ
+ended bytes = bytes ++ 10 ∷ []
+
+abbrev pub no_line_feed : ℕ → Bool
+no_line_feed b = not (b == 10)
 
 -- what is left of a text: its lines, and the number of the first of them
 pub record RestOfText : Type 0 where

@@ -1,5 +1,5 @@
 -- Lines of one kind, as long as they come.
-use Rattle.std.specs.Prelude.{◌≡◌, ℕ, ◌+◌, Bool, false, if◌then◌else◌, List, [], ◌∷◌, Result, Ok, Err}
+use Rattle.std.specs.Prelude.{◌≡◌, ℕ, ◌+◌, Bool, false, if◌then◌else◌, List, [], ◌∷◌, Result, Ok}
 use Rattle.git_lines.specs.Lines.{RestOfText}
 use Rattle.git_lines.specs.Reading.{◌>>=◌}
 

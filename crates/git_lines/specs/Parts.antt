@@ -1,5 +1,5 @@
 -- The parts of a text between separators.
-use Rattle.std.specs.Prelude.{ℕ, ◌+◌, ◌==◌, ◌||◌, Bool, if◌then◌else◌, List, [], ◌∷◌, length, Option, Some, None}
+use Rattle.std.specs.Prelude.{ℕ, ◌+◌, ◌==◌, ◌||◌, Bool, if◌then◌else◌, List, [], ◌∷◌, Option, Some, None}
 use Rattle.git_lines.specs.declared.parts.Separator.{Separator}
 use Rattle.git_lines.specs.declared.parts.Separator.TheVariants.{Space, Star, PlusOrMinus}
 

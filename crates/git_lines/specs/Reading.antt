@@ -4,7 +4,7 @@ use Rattle.std.specs.Str.{bytes_eq}
 use Rattle.git_lines.specs.declared.fault.FormFault.{FormFault}
 use Rattle.git_lines.specs.declared.fault.FormKind.{FormKind}
 use Rattle.git_lines.specs.declared.fault.FormKind.TheVariants.{Number, Count, Range, Syntax, Truncated, Trailing}
-use Rattle.git_lines.specs.Lines.{RestOfText, NumberedLine, content}
+use Rattle.git_lines.specs.Lines.{RestOfText, NumberedLine, content, without_last, is_ended}
 use Rattle.git_lines.specs.Tokens.{Token, RestOfLine, next_token}
 use Rattle.git_lines.specs.Numbers.{integer}
 
@@ -40,10 +40,18 @@ line_at line (l ∷ ls) = Ok (record { number = line; text = content l }, record
 unfoldable pub next_line : RestOfText → Result (NumberedLine × RestOfText) FormFault
 next_line text = line_at text.line text.lines
 
--- the next line, read whole by its number and its content
-unfoldable pub line_by : {A E : Type 0} → (FormFault → E) → (ℕ → List ℕ → Result A E) → RestOfText → Result (A × RestOfText) E
-line_by as_fault read text = do
-  l ← lift as_fault (next_line text)
+abbrev pub ended_line_at : ℕ → List (List ℕ) → Result (NumberedLine × RestOfText) FormFault
+ended_line_at line [] = fault_at line 1 Truncated
+ended_line_at line (l ∷ ls) = if is_ended l then Ok (record { number = line; text = without_last 10 l }, record { line = line + 1; lines = ls }) else fault_at line 1 Truncated
+
+-- the next line, which has to be there with its line feed; a carriage return is a byte like any other
+unfoldable pub next_ended_line : RestOfText → Result (NumberedLine × RestOfText) FormFault
+next_ended_line text = ended_line_at text.line text.lines
+
+-- the next line, read whole by its number and its bytes
+unfoldable pub line_by : {A E : Type 0} → (RestOfText → Result (NumberedLine × RestOfText) FormFault) → (FormFault → E) → (ℕ → List ℕ → Result A E) → RestOfText → Result (A × RestOfText) E
+line_by next as_fault read text = do
+  l ← lift as_fault (next text)
   a ← read l.0.number l.0.text
   Ok (a, l.1)
 

@@ -1,5 +1,4 @@
 -- What the values of the code stand for.
-use Rattle.std.specs.Prelude.{ℕ}
 use Rattle.git_lines.specs.declared.lines.Line.{Line}
 use Rattle.git_lines.specs.declared.lines.Lines.{Lines}
 use Rattle.git_lines.specs.Lines.{RestOfText, NumberedLine, text_from}

@@ -14,9 +14,10 @@ mod tokens;
 
 pub use fault::{FormFault, FormKind};
 pub use laws::{
-    fields_are_read_back, fields_make_the_line, integers_are_read_back,
-    integers_are_read_back_once, integers_have_one_spelling, lines_make_the_text,
-    words_are_read_back, words_hold_no_space,
+    carriage_return_ends_the_line, fields_are_read_back, fields_make_the_line,
+    integers_are_read_back, integers_are_read_back_once, integers_have_one_spelling,
+    line_feed_ends_the_line, lines_are_read_back, lines_make_the_text,
+    tokens_stand_at_their_columns, words_are_read_back, words_hold_no_space, words_lose_nothing,
 };
 pub use lines::{Line, Lines};
 pub use numbers::{integer_of, integer_once_of, natural_of, natural_once_of};

@@ -1,7 +1,7 @@
 //! A text, line by line.
-ghost use Rattle.std.specs.Prelude.{◌≡◌, ◌≢◌, ◌+◌, ◌-◌, ◌<◌, ◌≤◌, ◌^◌, ℕ, length, slice_index};
+ghost use Rattle.std.specs.Prelude.{◌≡◌, ◌≢◌, ◌+◌, ◌-◌, ◌<◌, ◌≤◌, ◌^◌, ℕ, length, slice_index, OnErr};
 ghost use Rattle.git_lines.specs.Lines.{without_last};
-ghost use Rattle.git_lines.specs.Reading.{Gives, next_line, no_line};
+ghost use Rattle.git_lines.specs.Reading.{Gives, next_line, next_ended_line, no_line};
 
 use crate::fault::{FormFault, FormKind};
 
@@ -71,6 +71,7 @@ impl<'a> Lines<'a> {
     pub fn next_line(&mut self) -> Result<Line<'a>, FormFault>
         ensures reads { Gives (λ l. (line_of l, rest_of_text self.new)) result (next_line (rest_of_text self.old)) }
         ensures bytes { self.new.bytes.now ≡ self.old.bytes.now }
+        ensures stays { OnErr result (self.new ≡ self.old) }
     {
         let rest = &self.bytes[self.at..];
         if rest.is_empty() {
@@ -84,6 +85,36 @@ impl<'a> Lines<'a> {
         let line = Line {
             number: self.line,
             text: without(b'\r', without(b'\n', &rest[..len])),
+        };
+        self.line += 1;
+        self.at += len;
+        Ok(line)
+    }
+
+    /// The next line without its line feed, which has to be there; a carriage return is a byte like any other. Where no line
+    /// is left, or the line lacks its line feed: `Truncated` at that line, column 1, and nothing is changed.
+    #[tactic(auto, unfolding(crate::specs::Reading::next_ended_line))]
+    pub fn next_ended_line(&mut self) -> Result<Line<'a>, FormFault>
+        ensures reads { Gives (λ l. (line_of l, rest_of_text self.new)) result (next_ended_line (rest_of_text self.old)) }
+        ensures bytes { self.new.bytes.now ≡ self.old.bytes.now }
+        ensures stays { OnErr result (self.new ≡ self.old) }
+    {
+        let rest = &self.bytes[self.at..];
+        let missing = FormFault {
+            line: self.line,
+            column: 1,
+            kind: FormKind::Truncated,
+        };
+        if rest.is_empty() {
+            return Err(missing);
+        }
+        let len = first_line_len(rest);
+        if rest[len - 1] != b'\n' {
+            return Err(missing);
+        }
+        let line = Line {
+            number: self.line,
+            text: &rest[..len - 1],
         };
         self.line += 1;
         self.at += len;

@@ -1,4 +1,4 @@
-use Rattle.std.proofs.Common.{◌≡◌, ◌≢◌, ℕ, ◌<◌, ◌≤◌, ◌+◌, ◌-◌, length, get_or}
+use Rattle.std.proofs.Common.{◌≢◌, ℕ, ◌<◌, ◌≤◌, ◌+◌, ◌-◌, length, get_or}
 use Rattle.git_lines.proofs.lines.first_line_len.Given as goal
 
 abbrev pub invariant-loop-end : goal.invariant-loop-end

@@ -1,4 +1,4 @@
-use Rattle.std.proofs.Common.{◌≡◌, ◌<◌, ◌^◌, take, true}
+use Rattle.std.proofs.Common.{◌≡◌, ◌<◌, ◌^◌, take}
 use Rattle.git_lines.specs.Numbers.{value_of}
 use Rattle.git_lines.proofs.numbers.value_of.Given as goal
 
