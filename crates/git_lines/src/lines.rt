@@ -65,6 +65,17 @@ impl<'a> Lines<'a> {
         }
     }
 
+    /// A fault at the first byte of the line that comes next.
+    fn fault(&self, kind: FormKind) -> FormFault
+        ensures { result ≡ record { line = self.now.line; column = 1; kind = kind } }
+    {
+        FormFault {
+            line: self.line,
+            column: 1,
+            kind,
+        }
+    }
+
     /// The next line without its end, a line feed with or without one carriage return before it. The last line may lack
     /// its line feed. Where no line is left: `Truncated` at the line that is missing, column 1, and nothing is changed.
     #[tactic(auto, unfolding(crate::specs::Reading::next_line))]
@@ -75,11 +86,7 @@ impl<'a> Lines<'a> {
     {
         let rest = &self.bytes[self.at..];
         if rest.is_empty() {
-            return Err(FormFault {
-                line: self.line,
-                column: 1,
-                kind: FormKind::Truncated,
-            });
+            return Err(self.fault(FormKind::Truncated));
         }
         let len = first_line_len(rest);
         let line = Line {
@@ -100,17 +107,12 @@ impl<'a> Lines<'a> {
         ensures stays { OnErr result (self.new ≡ self.old) }
     {
         let rest = &self.bytes[self.at..];
-        let missing = FormFault {
-            line: self.line,
-            column: 1,
-            kind: FormKind::Truncated,
-        };
         if rest.is_empty() {
-            return Err(missing);
+            return Err(self.fault(FormKind::Truncated));
         }
         let len = first_line_len(rest);
         if rest[len - 1] != b'\n' {
-            return Err(missing);
+            return Err(self.fault(FormKind::Truncated));
         }
         let line = Line {
             number: self.line,
@@ -129,11 +131,7 @@ impl<'a> Lines<'a> {
         if self.at == self.bytes.len() {
             Ok(())
         } else {
-            Err(FormFault {
-                line: self.line,
-                column: 1,
-                kind: FormKind::Trailing,
-            })
+            Err(self.fault(FormKind::Trailing))
         }
     }
 }

@@ -237,20 +237,24 @@ fn steps_report_the_place(rt: HostRuntime) -> Result<(), Fail> {
         .ok()
         .ok_or("a line")?;
     let mut rest = Cursor::words(&line);
+    assert_eq!(rt; rest.no_token(), Err(fault(1, 2, FormKind::Count)));
     assert_eq!(rt; rest.word_token(b"a"), Err(fault(1, 2, FormKind::Syntax)));
-    let mut rest = Cursor::words(&line);
     assert_eq!(rt; rest.word_token(b"at"), Ok(()));
     assert_eq!(rt;
-        rest.integer_token(1, 11),
+        rest.integer_token(0, 11),
         Err(fault(1, 6, FormKind::Range))
     );
-    let mut rest = Cursor::words(&line);
-    assert_eq!(rt; rest.word_token(b"at"), Ok(()));
+    assert_eq!(rt;
+        rest.integer_token(13, 99),
+        Err(fault(1, 6, FormKind::Range))
+    );
     assert_eq!(rt; rest.integer_token(12, 12), Ok(12));
     assert_eq!(rt;
         rest.integer_token(0, 1),
         Err(fault(1, 9, FormKind::Number))
     );
+    assert!(rt; rest.peek_token().is_some());
+    assert_eq!(rt; rest.word_token(b"x"), Ok(()));
     assert_eq!(rt;
         rest.integer_token(0, 1),
         Err(fault(1, 11, FormKind::Count))
@@ -259,7 +263,5 @@ fn steps_report_the_place(rt: HostRuntime) -> Result<(), Fail> {
     assert_eq!(rt; rest.no_token(), Ok(()));
     assert_eq!(rt; rest.line(), 1);
     assert_eq!(rt; rest.past(), 11);
-    let mut rest = Cursor::words(&line);
-    assert_eq!(rt; rest.no_token(), Err(fault(1, 2, FormKind::Count)));
     Ok(())
 }

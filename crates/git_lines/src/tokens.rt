@@ -120,11 +120,10 @@ impl<'a> Cursor<'a> {
         self.column + self.rest.len() as u32
     }
 
-    /// The next token; none where spaces alone are left.
-    pub fn next_token(&mut self) -> Option<Token<'a>>
-        ensures none { IfNone result (next_token self.old ≡ None) }
-        ensures stays { IfNone result (self.new ≡ self.old) }
-        ensures some { IfSome result (λ t. next_token self.old ≡ Some (record { column = t.column; text = t.text.now }, self.new)) }
+    /// The next token, and the cursor after it; none where spaces alone are left.
+    pub fn peek_token(&self) -> Option<(Token<'a>, Cursor<'a>)>
+        ensures none { IfNone result (next_token self.now ≡ None) }
+        ensures some { IfSome result (λ p. next_token self.now ≡ Some (record { column = p.0.column; text = p.0.text.now }, p.1)) }
     {
         let Some((start, end)) = first_token(self.joining, self.rest) else {
             return None;
@@ -133,8 +132,23 @@ impl<'a> Cursor<'a> {
             column: self.column + start as u32,
             text: &self.rest[start..end],
         };
-        self.column += end as u32;
-        self.rest = &self.rest[end..];
+        let after = Cursor {
+            joining: self.joining,
+            line: self.line,
+            column: self.column + end as u32,
+            rest: &self.rest[end..],
+        };
+        Some((token, after))
+    }
+
+    /// The next token; none where spaces alone are left, and then nothing is changed.
+    pub fn next_token(&mut self) -> Option<Token<'a>>
+        ensures none { IfNone result (next_token self.old ≡ None) }
+        ensures stays { IfNone result (self.new ≡ self.old) }
+        ensures some { IfSome result (λ t. next_token self.old ≡ Some (record { column = t.column; text = t.text.now }, self.new)) }
+    {
+        let (token, after) = self.peek_token()?;
+        *self = after;
         Some(token)
     }
 }

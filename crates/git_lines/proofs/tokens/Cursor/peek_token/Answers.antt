@@ -1,6 +1,6 @@
 use Rattle.git_lines.proofs.Slices.{rest_is}
 use Rattle.git_lines.proofs.FirstToken.{none_left, next_is}
-use Rattle.git_lines.proofs.tokens.Cursor.next_token.Goals as goal
+use Rattle.git_lines.proofs.tokens.Cursor.peek_token.Goals as goal
 
 pub returns-in_default-clause-none : goal.returns-in_default-clause-none
 returns-in_default-clause-none c =
