@@ -1,11 +1,11 @@
 -- The first line of a text, from where it ends.
-use Rattle.std.proofs.Common.{◌≡◌, ◌≢◌, ℕ, zero, suc, ◌+◌, ◌-◌, ◌<◌, ◌≤◌, Bool, true, false, cond, List, [], ◌∷◌, length, get_or, take, drop, Ok, refl, sym, ◌∙◌, ap, arith, eq-eqb}
+use Rattle.std.proofs.Common.{◌≡◌, ◌≢◌, ℕ, zero, suc, ◌+◌, ◌-◌, ◌<◌, ◌≤◌, Bool, true, false, cond, List, [], ◌∷◌, length, get_or, take, drop, refl, sym, ◌∙◌, ap, arith}
 use Rattle.std.specs.List.{concat}
 use Rattle.std.proofs.lemmas.Bool.Decides.{nat_tests}
-use Rattle.std.proofs.lemmas.List.{drop-drop, length-take-le, get_or-take, take-take}
-use Rattle.git_lines.specs.declared.fault.FormKind.TheVariants.{Trailing, Truncated}
-use Rattle.git_lines.specs.Lines.{onto_first, lines_of, content, is_ended, text_from}
-use Rattle.git_lines.specs.Reading.{fault_at, next_line, next_ended_line, nothing_at, no_line}
+use Rattle.std.proofs.lemmas.List.{drop-drop, length-take-le}
+use Rattle.git_lines.specs.declared.fault.FormKind.TheVariants.{Trailing}
+use Rattle.git_lines.specs.Lines.{onto_first, lines_of}
+use Rattle.git_lines.specs.Reading.{fault_at, nothing_at, no_line}
 
 pub step_end : (b : ℕ) (bytes : List ℕ) → b ≡ 10 → lines_of (b ∷ bytes) ≡ (b ∷ []) ∷ lines_of bytes
 step_end b bytes e = grind (arith, nat_tests)
@@ -30,13 +30,12 @@ first_at (suc n) bytes some within inside end =
 
 -- ---- the next line of what is left of a text
 
-pub next_line_is : (line at n : ℕ) (bytes rest text : List ℕ) → rest ≡ drop at bytes → lines_of rest ≡ take n rest ∷ lines_of (drop n rest) → text ≡ content (take n rest)
-    → next_line (text_from line at bytes) ≡ Ok (record { number = line; text = text }, text_from (line + 1) (at + n) bytes)
-unfolding next_line
-next_line_is line at n bytes rest text r e t =
+pub raw_line_is : (at n : ℕ) (bytes rest : List ℕ) → rest ≡ drop at bytes → lines_of rest ≡ take n rest ∷ lines_of (drop n rest) → n ≤ length rest
+    → lines_of (drop at bytes) ≡ take n rest ∷ lines_of (drop (at + length (take n rest)) bytes)
+raw_line_is at n bytes rest r e within =
+    let size : length (take n rest) ≡ n = length-take-le n rest within in
     let dropped : drop n rest ≡ drop (at + n) bytes = rw r (drop-drop n at bytes) in
-    let lines : lines_of (drop at bytes) ≡ take n rest ∷ lines_of (drop (at + n) bytes) = sym (ap lines_of r) ∙ e ∙ ap (λ l. take n rest ∷ lines_of l) dropped in
-    rw (lines, t) refl
+    rw size (sym (ap lines_of r) ∙ e ∙ ap (λ l. take n rest ∷ lines_of l) dropped)
 
 some_line : (b : ℕ) (line : ℕ) (read : List (List ℕ)) (ends : Bool) → nothing_at line (cond ends ((b ∷ []) ∷ read) (onto_first b read)) ≡ fault_at line 1 Trailing
 some_line b line read true = refl
@@ -66,35 +65,3 @@ lines_make (b ∷ bytes) = line_made b bytes (lines_of bytes) _ (lines_make byte
 pub line_follows : (line : ℕ) (bytes : List ℕ) → 0 < length bytes → no_line (record { line = line; lines = lines_of bytes }) ≡ fault_at line 1 Trailing
 unfolding no_line
 line_follows line bytes some = something_follows line bytes some
-
--- ---- the next line that has its line feed
-
-last_of_front : (n : ℕ) (rest : List ℕ) → 0 < n → n ≤ length rest → get_or (take n rest) (length (take n rest) - 1) 0 ≡ get_or rest (n - 1) 0
-last_of_front n rest some within =
-    let size : length (take n rest) ≡ n = length-take-le n rest within in
-    let last : n - 1 < n = omega arith in
-    rw size (get_or-take n rest (n - 1) 0 last)
-
-front_of_front : (n : ℕ) (rest : List ℕ) → 0 < n → n ≤ length rest → take (length (take n rest) - 1) (take n rest) ≡ take (n - 1) rest
-front_of_front n rest some within =
-    let size : length (take n rest) ≡ n = length-take-le n rest within in
-    let last : n - 1 ≤ n = omega arith in
-    rw size (take-take (n - 1) n rest last)
-
-pub ended_line_is : (line at n : ℕ) (bytes rest : List ℕ) → rest ≡ drop at bytes → lines_of rest ≡ take n rest ∷ lines_of (drop n rest) → 0 < n → n ≤ length rest → get_or rest (n - 1) 0 ≡ 10
-    → next_ended_line (text_from line at bytes) ≡ Ok (record { number = line; text = take (n - 1) rest }, text_from (line + 1) (at + n) bytes)
-unfolding next_ended_line
-ended_line_is line at n bytes rest r e some within feed =
-    let dropped : drop n rest ≡ drop (at + n) bytes = rw r (drop-drop n at bytes) in
-    let lines : lines_of (drop at bytes) ≡ take n rest ∷ lines_of (drop (at + n) bytes) = sym (ap lines_of r) ∙ e ∙ ap (λ l. take n rest ∷ lines_of l) dropped in
-    let test : is_ended (take n rest) ≡ true = eq-eqb _ _ (last_of_front n rest some within ∙ feed) in
-    rw (lines, test, front_of_front n rest some within) refl
-
-pub line_feed_lacks : (line at n : ℕ) (bytes rest : List ℕ) → rest ≡ drop at bytes → lines_of rest ≡ take n rest ∷ lines_of (drop n rest) → 0 < n → n ≤ length rest → get_or rest (n - 1) 0 ≢ 10
-    → next_ended_line (text_from line at bytes) ≡ fault_at line 1 Truncated
-unfolding next_ended_line
-line_feed_lacks line at n bytes rest r e some within other =
-    let lines : lines_of (drop at bytes) ≡ take n rest ∷ lines_of (drop n rest) = sym (ap lines_of r) ∙ e in
-    let last : get_or (take n rest) (length (take n rest) - 1) 0 ≢ 10 = λ h. other (sym (last_of_front n rest some within) ∙ h) in
-    let test : is_ended (take n rest) ≡ false = grind (arith, nat_tests) in
-    rw (lines, test) refl

@@ -1,6 +1,6 @@
 //! A text, line by line.
-ghost use Rattle.std.specs.Prelude.{◌≡◌, ◌≢◌, ◌+◌, ◌-◌, ◌<◌, ◌≤◌, ◌^◌, ℕ, length, slice_index, OnErr};
-ghost use Rattle.git_lines.specs.Lines.{without_last};
+ghost use Rattle.std.specs.Prelude.{◌≡◌, ◌≢◌, ◌+◌, ◌-◌, ◌<◌, ◌≤◌, ◌^◌, ℕ, [], ◌∷◌, length, drop, slice_index, IfSome, IfNone, OnErr};
+ghost use Rattle.git_lines.specs.Lines.{lines_of, without_last, text_from};
 ghost use Rattle.git_lines.specs.Reading.{Gives, next_line, next_ended_line, no_line};
 
 use crate::fault::{FormFault, FormKind};
@@ -76,6 +76,38 @@ impl<'a> Lines<'a> {
         }
     }
 
+    /// The bytes of the next line, its line feed included.
+    fn raw_line(&self) -> Option<&'a [u8]>
+        ensures none { IfNone result ((rest_of_text self.now).lines ≡ []) }
+        ensures some { IfSome result (λ l. (rest_of_text self.now).lines ≡ l.now ∷ lines_of (drop (self.now.at + length l.now) self.now.bytes.now)) }
+        ensures full { IfSome result (λ l. 0 < length l.now) }
+        ensures within { IfSome result (λ l. self.now.at + length l.now ≤ length self.now.bytes.now) }
+    {
+        let rest = &self.bytes[self.at..];
+        if rest.is_empty() {
+            return None;
+        }
+        Some(&rest[..first_line_len(rest)])
+    }
+
+    /// Goes past a line of so many bytes, and gives its text and its number.
+    fn pass(&mut self, len: usize, text: &'a [u8]) -> Line<'a>
+        requires full { 0 < len }
+        requires within { self.old.at + len ≤ length self.old.bytes.now }
+        requires short { length text.now ≤ len }
+        ensures line { line_of result ≡ record { number = self.old.line; text = text.now } }
+        ensures rest { rest_of_text self.new ≡ text_from (self.old.line + 1) (self.old.at + len) self.old.bytes.now }
+        ensures bytes { self.new.bytes.now ≡ self.old.bytes.now }
+    {
+        let line = Line {
+            number: self.line,
+            text,
+        };
+        self.line += 1;
+        self.at += len;
+        line
+    }
+
     /// The next line without its end, a line feed with or without one carriage return before it. The last line may lack
     /// its line feed. Where no line is left: `Truncated` at the line that is missing, column 1, and nothing is changed.
     #[tactic(auto, unfolding(crate::specs::Reading::next_line))]
@@ -84,18 +116,10 @@ impl<'a> Lines<'a> {
         ensures bytes { self.new.bytes.now ≡ self.old.bytes.now }
         ensures stays { OnErr result (self.new ≡ self.old) }
     {
-        let rest = &self.bytes[self.at..];
-        if rest.is_empty() {
+        let Some(raw) = self.raw_line() else {
             return Err(self.fault(FormKind::Truncated));
-        }
-        let len = first_line_len(rest);
-        let line = Line {
-            number: self.line,
-            text: without(b'\r', without(b'\n', &rest[..len])),
         };
-        self.line += 1;
-        self.at += len;
-        Ok(line)
+        Ok(self.pass(raw.len(), without(b'\r', without(b'\n', raw))))
     }
 
     /// The next line without its line feed, which has to be there; a carriage return is a byte like any other. Where no line
@@ -106,21 +130,13 @@ impl<'a> Lines<'a> {
         ensures bytes { self.new.bytes.now ≡ self.old.bytes.now }
         ensures stays { OnErr result (self.new ≡ self.old) }
     {
-        let rest = &self.bytes[self.at..];
-        if rest.is_empty() {
+        let Some(raw) = self.raw_line() else {
             return Err(self.fault(FormKind::Truncated));
-        }
-        let len = first_line_len(rest);
-        if rest[len - 1] != b'\n' {
-            return Err(self.fault(FormKind::Truncated));
-        }
-        let line = Line {
-            number: self.line,
-            text: &rest[..len - 1],
         };
-        self.line += 1;
-        self.at += len;
-        Ok(line)
+        match raw {
+            [text @ .., b'\n'] => Ok(self.pass(raw.len(), text)),
+            _ => Err(self.fault(FormKind::Truncated)),
+        }
     }
 
     /// No byte is left; else `Trailing` at the first of them.
