@@ -1,0 +1,12 @@
+pub mod Slices
+pub mod FirstToken
+pub mod FirstLine
+pub mod FirstPart
+pub mod LineLemmas
+pub mod ColumnLemmas
+pub mod Loops
+pub mod Exact
+pub mod ManyLines
+pub mod NumberLemmas
+pub mod WordLemmas
+pub mod FieldLemmas

@@ -1,0 +1,11 @@
+pub mod Lines
+pub mod Views
+pub mod Tokens
+pub mod Parts
+pub mod Numbers
+pub mod Reading
+pub mod Many
+pub mod Grammar
+pub mod Strict
+pub mod Printing
+pub mod Laws
