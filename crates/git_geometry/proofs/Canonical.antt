@@ -1,0 +1,42 @@
+-- The rays of a cone among its generators, by its facets.
+use Rattle.std.proofs.Common.{◌≡◌, List, ℕ}
+use Rattle.git_defs.proofs.Members.{Member, OfLength}
+use Rattle.git_defs.specs.Cones.{Cut, IsEdge, IsPointed, OnRay}
+use Rattle.git_defs.specs.Vectors.{IsPrimitive, Vector, zero_vector}
+use Rattle.git_geometry.proofs.Cuts.{cut_closed}
+use Rattle.git_geometry.proofs.Edges.{dominator_on_edge, edge_of_alone}
+use Rattle.git_geometry.proofs.Minkowski.{generates_back}
+use Rattle.git_geometry.proofs.Primitive.{primitive_nonzero}
+use Rattle.git_geometry.proofs.Rays.{edge_on_ray, on_own_ray, on_ray_back, primitive_of_ray, ray_of_generator, some_times}
+use Rattle.git_geometry.proofs.Stages.{exact_generators}
+use Rattle.git_geometry.specs.Generators.{Generates, RayOf}
+use Rattle.git_geometry.specs.Stages.{Exact}
+use Rattle.git_geometry.specs.Zeros.{AreUndominated}
+
+-- primitive vectors that generate a cone: the undominated ones are its extreme vectors
+pub undominated_exact : (k : ℕ) (A R S : List Vector) → Generates k A R → ((r : Vector) → Member r R → IsPrimitive r) → AreUndominated A R S
+    → Exact k A S
+undominated_exact k A R S g primitive u = record { edges = edge; primitive = λ r m. primitive r (u.from r m); complete = complete } where
+  some : (r : Vector) → Member r R → r ≡ zero_vector k → ⊥
+  some r m = primitive_nonzero k r (g.inside r m).entries (primitive r m)
+
+  edge : (r : Vector) → Member r S → IsEdge k (Cut k A) r
+  edge r m = edge_of_alone k A R r g (g.inside r (u.from r m)) (some r (u.from r m)) (λ s n d. on_own_ray (u.only r s m n d))
+
+  -- a generator on the ray of an edge is an edge, so what dominates it is on its ray
+  kept : (x r : Vector) → IsEdge k (Cut k A) x → Member r R → OnRay x r → Member r S
+  kept x r e m o =
+      let t = some_times k r x (g.inside r m).entries e.nonzero o in
+      let er = edge_on_ray k (Cut k A) (cut_closed k A) x r e (g.inside r m) (some r m) (on_ray_back r x o t) o.positive in
+      u.back r m (λ s n d. primitive_of_ray k r s (g.inside r m).entries (some s n) (primitive r m) (primitive s n)
+      (dominator_on_edge k A s r er (g.inside s n) d))
+
+  complete : (x : Vector) → IsEdge k (Cut k A) x → RayOf S x
+  complete x e = let o = ray_of_generator k (Cut k A) R x (cut_closed k A) g.inside e (g.all x e.member) in
+      record { one = o.one; member = kept x o.one e o.member o.on; on = o.on }
+
+-- generators of a cone: with the facets by double description, the rays by dropping
+pub rays_of_generators : (k : ℕ) (given facets rays : List Vector) → OfLength k given → ((v : Vector) → Member v given → IsPrimitive v)
+    → IsPointed k (Cut k given) → Exact k given facets → AreUndominated facets given rays → Exact k facets rays
+rays_of_generators k given facets rays have primitive pointed exact u =
+    undominated_exact k facets given rays (generates_back k given facets have (exact_generators k given pointed facets exact)) primitive u

@@ -1,0 +1,7 @@
+use Rattle.git_defs.proofs.Members.{all_of_length}
+use Rattle.git_geometry.proofs.Extreme.{edge_where}
+use Rattle.git_geometry.proofs.Minkowski.{generates_of_same}
+use Rattle.git_geometry.proofs.extreme_vectors.generator_is_an_edge_exactly_where_alone.Goals as goal
+
+pub returns : goal.returns
+returns c = λ k A R r same have c some. edge_where k A R r (generates_of_same k A R (all_of_length k R have) same) c some

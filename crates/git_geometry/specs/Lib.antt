@@ -1,0 +1,12 @@
+pub mod Generators
+pub mod Zeros
+pub mod Stages
+pub mod Elimination
+pub mod Germs
+pub mod Instances
+pub mod MembershipLaws
+pub mod DualityLaws
+pub mod ExtremeLaws
+pub mod DescriptionLaws
+pub mod RankLaws
+pub mod GermLaws
