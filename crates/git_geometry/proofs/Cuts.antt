@@ -8,7 +8,7 @@ use Rattle.git_defs.proofs.Cuts.{cut_from, cut_side}
 use Rattle.git_defs.proofs.Integers.{add_nonneg, mul_nonneg, nonneg_of_mul}
 use Rattle.git_defs.proofs.Linear.{dot-plus, dot-scale, dot-zero, length-plus, length-scale, length-zero}
 use Rattle.git_defs.proofs.Members.{Member}
-use Rattle.git_defs.specs.Cones.{Cut}
+use Rattle.git_defs.specs.Cones.{Cut, SameSet}
 use Rattle.git_defs.specs.Vectors.{Vector, dot}
 
 -- the sides of a cut and a cut by its sides, with the arguments that the types show
@@ -37,6 +37,13 @@ cut_closed k A = record {
 pub cut_with : {k : ℕ} {A : List Vector} {x : Vector} (b : Vector) → pos 0 ≤ℤ dot b x → Cut k A x → Cut k (b ∷ A) x
 cut_with {k} {A} {x} b side c = cut_of c.entries (λ a m. elim m [ inl e ↦ subst (λ (n : Vector). pos 0 ≤ℤ dot n x) e side | inr o ↦ side_at c a o ])
 
--- one less
+-- fewer inequalities cut out more
+pub cut_within : (k : ℕ) (A B : List Vector) → ((b : Vector) → Member b B → Member b A) → (x : Vector) → Cut k A x → Cut k B x
+cut_within k A B within x c = cut_of c.entries (λ b m. side_at c b (within b m))
+
 pub cut_more : (k : ℕ) (A : List Vector) (b x : Vector) → Cut k (b ∷ A) x → Cut k A x
-cut_more k A b x c = cut_of c.entries (λ a m. side_at c a (inr m))
+cut_more k A b x c = cut_within k (b ∷ A) A (λ a m. inr m) x c
+
+-- their order does not matter
+pub cut_same : (k : ℕ) (A B : List Vector) → ((a : Vector) → Member a A → Member a B) → ((b : Vector) → Member b B → Member b A) → SameSet (Cut k A) (Cut k B)
+cut_same k A B to back x = (cut_within k A B back x, cut_within k B A to x)

@@ -7,13 +7,13 @@ use borrow.Author.Differences.{up}
 use Rattle.git_defs.proofs.Closed.{IsClosed, cone_closed, cone_has}
 use Rattle.git_defs.proofs.Members.{Member, OfLength}
 use Rattle.git_defs.proofs.Sums.{scale-one, scale-scale, scale-zero}
-use Rattle.git_defs.specs.Cones.{Cut, InCone, IsEdge, IsExtreme, IsPointed, OnRay}
+use Rattle.git_defs.specs.Cones.{Cut, InCone, IsEdge, IsExtreme, IsPointed, OnRay, SameSet}
 use Rattle.git_defs.specs.Vectors.{Vector, dot, scale}
 use Rattle.git_geometry.proofs.Blends.{blend_cut, blend_some, one_more}
 use Rattle.git_geometry.proofs.Cuts.{cut_closed, cut_more, cut_with, side_at}
 use Rattle.git_geometry.proofs.Edges.{edges_generate}
 use Rattle.git_geometry.proofs.Neighbours.{adjacent_edge, edge_near}
-use Rattle.git_geometry.proofs.Rays.{Touches, edge_on_ray, on_ray_back, primitive_of_ray, some_times, touches_closed, touches_end, touches_member}
+use Rattle.git_geometry.proofs.Rays.{Touches, edge_along, edge_on_ray, on_ray_back, primitive_of_ray, same_back, some_times, touches_closed, touches_end, touches_member}
 use Rattle.git_geometry.specs.Generators.{Generates, RayOf}
 use Rattle.git_geometry.specs.Stages.{Exact, IsBlended, IsNext, blend}
 use Rattle.git_geometry.specs.Zeros.{Adjacent}
@@ -122,3 +122,11 @@ exact_each k A R exact x = (
       (primitive_of_ray k r.one x er.member.entries h.edge.nonzero
       (exact.primitive r.one r.member) h.primitive r.on)) r.member,
 )
+
+-- a list is exact for all inequalities that cut out the same
+pub exact_along : (k : ℕ) (A B R : List Vector) → SameSet (Cut k A) (Cut k B) → Exact k A R → Exact k B R
+exact_along k A B R same exact = record {
+  edges = λ x m. edge_along k (Cut k A) (Cut k B) x same (exact.edges x m);
+  primitive = exact.primitive;
+  complete = λ x e. exact.complete x (edge_along k (Cut k B) (Cut k A) x (same_back (Cut k A) (Cut k B) same) e);
+}
