@@ -1,0 +1,3 @@
+pub mod ListingText
+pub mod Views
+pub mod Directions
