@@ -1,2 +1,3 @@
 pub mod SpacedLemmas
 pub mod SmallEntries
+pub mod RunLemmas

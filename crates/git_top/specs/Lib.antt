@@ -1,3 +1,4 @@
 pub mod ListingText
 pub mod Views
 pub mod Directions
+pub mod Run

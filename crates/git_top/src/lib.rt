@@ -2,11 +2,13 @@
 //! does, and its contract is what the program promises.
 #![tactic(auto)]
 
+mod answer;
 mod chambers;
 mod direction;
 mod directions;
 mod listing;
 mod printing;
+mod run;
+mod words;
 
-/// A stand-in.
-pub fn stand_in() {}
+pub use run::gitfan;

@@ -1,0 +1,5 @@
+use Rattle.git_text.proofs.Inputs.{one_input}
+use Rattle.git_text.proofs.laws.one_input.Goals as goal
+
+pub returns : goal.returns
+returns c = one_input

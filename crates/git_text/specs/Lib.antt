@@ -1,0 +1,5 @@
+pub mod Grammar
+pub mod Reading
+pub mod Views
+pub mod Outcomes
+pub mod Laws

@@ -1,0 +1,117 @@
+//! The lines that begin with a word.
+ghost use Rattle.std.specs.Prelude.{◌≡◌, ◌≤◌, IfOk};
+ghost use Rattle.git_lines.specs.Views.{line_of, rest_of_text};
+ghost use Rattle.git_lines.specs.Reading.{Gives};
+ghost use Rattle.git_text.specs.Reading;
+ghost use Rattle.git_text.specs.Reading.{next_by, sizes_at, end_at};
+
+use git_lines::{Cursor, FormFault, Line, Lines};
+
+/// `gitfan 1`.
+#[tactic(auto, unfolding(crate::specs::Reading::header_line))]
+fn header_line(line: &Line<'_>) -> Result<(), FormFault>
+    ensures { Gives (λ x. tt) result (Rattle.git_text.specs.Reading.header_line line.now.number line.now.text.now) }
+{
+    let mut words = Cursor::words(line);
+    words.word_token(b"gitfan")?;
+    words.word_token(b"1")?;
+    words.no_token()
+}
+
+/// `grading K R`.
+#[tactic(auto, unfolding(crate::specs::Reading::sizes_line))]
+fn sizes_line(line: &Line<'_>) -> Result<(usize, usize), FormFault>
+    ensures reads { Gives (λ x. x) result (Rattle.git_text.specs.Reading.sizes_line line.now.number line.now.text.now) }
+    ensures some_rows { IfOk result (λ x. 1 ≤ x.0) }
+    ensures few_rows { IfOk result (λ x. x.0 ≤ 6) }
+    ensures some_columns { IfOk result (λ x. 1 ≤ x.1) }
+    ensures few_columns { IfOk result (λ x. x.1 ≤ 16) }
+{
+    let mut words = Cursor::words(line);
+    words.word_token(b"grading")?;
+    let k = words.integer_token(1, 6)?;
+    let r = words.integer_token(1, 16)?;
+    words.no_token()?;
+    Ok((k.unsigned_abs() as usize, r.unsigned_abs() as usize))
+}
+
+/// `ideal M`.
+#[tactic(auto, unfolding(crate::specs::Reading::ideal_line))]
+fn ideal_line(line: &Line<'_>) -> Result<usize, FormFault>
+    ensures { Gives (λ x. x) result (Rattle.git_text.specs.Reading.ideal_line line.now.number line.now.text.now) }
+{
+    let mut words = Cursor::words(line);
+    words.word_token(b"ideal")?;
+    let m = words.integer_token(0, 64)?;
+    words.no_token()?;
+    Ok(m.unsigned_abs() as usize)
+}
+
+/// `end`.
+#[tactic(auto, unfolding(crate::specs::Reading::end_line))]
+fn end_line(line: &Line<'_>) -> Result<(), FormFault>
+    ensures { Gives (λ x. tt) result (Rattle.git_text.specs.Reading.end_line line.now.number line.now.text.now) }
+{
+    let mut words = Cursor::words(line);
+    words.word_token(b"end")?;
+    words.no_token()
+}
+
+#[tactic(auto, unfolding(git_lines::specs::Reading::line_by))]
+fn header(lines: &mut Lines<'_>) -> Result<(), FormFault>
+    ensures { Gives (λ x. (tt, rest_of_text lines.new)) result (next_by Rattle.git_text.specs.Reading.header_line (rest_of_text lines.old)) }
+{
+    let line = lines.next_line()?;
+    header_line(&line)
+}
+
+#[tactic(auto, unfolding(git_lines::specs::Reading::line_by))]
+fn sizes(lines: &mut Lines<'_>) -> Result<(usize, usize), FormFault>
+    ensures reads { Gives (λ x. (x, rest_of_text lines.new)) result (next_by Rattle.git_text.specs.Reading.sizes_line (rest_of_text lines.old)) }
+    ensures some_rows { IfOk result (λ x. 1 ≤ x.0) }
+    ensures few_rows { IfOk result (λ x. x.0 ≤ 6) }
+    ensures some_columns { IfOk result (λ x. 1 ≤ x.1) }
+    ensures few_columns { IfOk result (λ x. x.1 ≤ 16) }
+{
+    let line = lines.next_line()?;
+    sizes_line(&line)
+}
+
+/// The two lines before the rows: the number of rows, from 1 to 6, and of columns, from 1 to 16.
+#[tactic(auto, unfolding(crate::specs::Reading::sizes_at))]
+pub(crate) fn header_and_sizes(lines: &mut Lines<'_>) -> Result<(usize, usize), FormFault>
+    ensures reads { Gives (λ x. (x, rest_of_text lines.new)) result (sizes_at (rest_of_text lines.old)) }
+    ensures some_rows { IfOk result (λ x. 1 ≤ x.0) }
+    ensures few_rows { IfOk result (λ x. x.0 ≤ 6) }
+    ensures some_columns { IfOk result (λ x. 1 ≤ x.1) }
+    ensures few_columns { IfOk result (λ x. x.1 ≤ 16) }
+{
+    header(lines)?;
+    sizes(lines)
+}
+
+/// The line of the number of generators.
+#[tactic(auto, unfolding(git_lines::specs::Reading::line_by))]
+pub(crate) fn ideal(lines: &mut Lines<'_>) -> Result<usize, FormFault>
+    ensures { Gives (λ x. (x, rest_of_text lines.new)) result (next_by Rattle.git_text.specs.Reading.ideal_line (rest_of_text lines.old)) }
+{
+    let line = lines.next_line()?;
+    ideal_line(&line)
+}
+
+#[tactic(auto, unfolding(git_lines::specs::Reading::line_by))]
+fn end(lines: &mut Lines<'_>) -> Result<(), FormFault>
+    ensures { Gives (λ x. (tt, rest_of_text lines.new)) result (next_by Rattle.git_text.specs.Reading.end_line (rest_of_text lines.old)) }
+{
+    let line = lines.next_line()?;
+    end_line(&line)
+}
+
+/// The last line, and no line after it.
+#[tactic(auto, unfolding(crate::specs::Reading::end_at))]
+pub(crate) fn last_line(lines: &mut Lines<'_>) -> Result<(), FormFault>
+    ensures { Gives (λ x. tt) result (end_at (rest_of_text lines.old)) }
+{
+    end(lines)?;
+    lines.no_line()
+}
