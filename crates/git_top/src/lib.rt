@@ -12,3 +12,6 @@ mod run;
 mod words;
 
 pub use run::gitfan;
+
+#[cfg(test)]
+mod tests;

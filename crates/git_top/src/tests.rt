@@ -1,0 +1,82 @@
+//! Runs over memory, against texts worked out by hand.
+ghost use Rattle.std.specs.Prelude.{◌<◌};
+
+use super::*;
+use git_base::{MemSink, MemSource, Status};
+use std::alloc::Global;
+use std::test::Fail;
+
+const PLANE: &[u8] = b"gitfan 1\ngrading 2 3\n1 1 0\n0 1 1\nideal 0\nend\n";
+
+const LISTING: &[u8] =
+    b"gitfan-listing 1\ngrading 2 3\ncones 3\nchambers 2\nchamber 1\nray 0 1\nray 1 1\nweight 1 2\nfacet -1 1 inner 2\nfacet 1 0 boundary\nchamber 2\nray 1 0\nray 1 1\nweight 2 1\nfacet 0 1 boundary\nfacet 1 -1 inner 1\nend\n";
+
+/// The status of a run over these words and bytes, and what it wrote.
+fn ran(alloc: Global, words: &[&str], bytes: &[u8], piece: usize) -> Result<(Status, Vec<u8>), Fail>
+    requires { 0 < piece }
+{
+    let mut source = MemSource::new(bytes.to_vec(alloc)?, piece, Vec::new(alloc));
+    let mut sink = MemSink::new(alloc, 4096, 4096, Vec::new(alloc))?;
+    let status = gitfan(alloc, words, &mut source, &mut sink);
+    Ok((status, sink.written().to_vec(alloc)?))
+}
+
+#[test]
+fn a_listing_is_written_however_the_bytes_come(rt: HostRuntime) -> Result<(), Fail> {
+    for piece in [1, 5, 4096] {
+        let (status, written) = ran(rt.alloc(), &["fan"], PLANE, piece)?;
+        assert_eq!(rt; status, Status::Done, "at {piece}");
+        assert_eq!(rt; written.as_slice(), LISTING, "at {piece}");
+    }
+    Ok(())
+}
+
+#[test]
+fn refusals_write_their_line(rt: HostRuntime) -> Result<(), Fail> {
+    let alloc = rt.alloc();
+    let (status, written) = ran(alloc, &[], PLANE, 9)?;
+    assert_eq!(rt; status, Status::Usage);
+    assert_eq!(rt; written.as_slice(), b"refused usage\n".as_slice());
+    assert_eq!(rt; ran(alloc, &["fun"], PLANE, 9)?.0, Status::Usage);
+    assert_eq!(rt; ran(alloc, &["fan", "fan"], PLANE, 9)?.0, Status::Usage);
+    let (status, written) = ran(alloc, &["fan"], b"", 9)?;
+    assert_eq!(rt; status, Status::BadInput);
+    assert_eq!(rt; written.as_slice(), b"refused input\n".as_slice());
+    let (status, written) = ran(alloc, &["fan"], b"gitfan 1\ngrading 3 3\n", 9)?;
+    assert_eq!(rt; status, Status::NotBuilt);
+    assert_eq!(rt; written.as_slice(), b"refused notbuilt\n".as_slice());
+    Ok(())
+}
+
+#[test]
+fn failing_devices_are_named(rt: HostRuntime) -> Result<(), Fail> {
+    let alloc = rt.alloc();
+    let mut source = MemSource::new(PLANE.to_vec(alloc)?, 4096, Vec::new(alloc));
+    let mut sink = MemSink::new(alloc, 4096, 16, [3].to_vec(alloc)?)?;
+    let status = gitfan(alloc, &["fan"], &mut source, &mut sink);
+    assert_eq!(rt; status, Status::WriteFault);
+    assert_eq!(rt;
+        sink.written(),
+        b"gitfan-listing 1\ngrading 2 3\ncon".as_slice()
+    );
+    let mut source = MemSource::new(PLANE.to_vec(alloc)?, 4096, [2].to_vec(alloc)?);
+    let mut sink = MemSink::new(alloc, 4096, 4096, Vec::new(alloc))?;
+    let status = gitfan(alloc, &["fan"], &mut source, &mut sink);
+    assert_eq!(rt; status, Status::ReadFault);
+    assert!(rt; sink.written().is_empty());
+    Ok(())
+}
+
+#[test]
+fn an_input_has_at_most_four_mebibytes(rt: HostRuntime) -> Result<(), Fail> {
+    let alloc = rt.alloc();
+    let mut bytes = PLANE.to_vec(alloc)?;
+    bytes.resize((4 << 20) - 1, b' ')?;
+    assert_eq!(rt; ran(alloc, &["fan"], &bytes, 4096)?.0, Status::BadInput);
+    let mut spaced = b"gitfan 1\ngrading 2 3\n1 1 0\n0 1 1\nideal 0\nend".to_vec(alloc)?;
+    spaced.resize(4 << 20, b' ')?;
+    assert_eq!(rt; ran(alloc, &["fan"], &spaced, 4096)?.0, Status::Done);
+    spaced.push(b' ')?;
+    assert_eq!(rt; ran(alloc, &["fan"], &spaced, 4096)?.0, Status::BadInput);
+    Ok(())
+}
