@@ -13,3 +13,6 @@ mod rows;
 pub use fault::InputFault;
 pub use input::{Input, read_input};
 pub use laws::{inputs_are_built, one_input, other_inputs_are_not_built};
+
+#[cfg(test)]
+mod tests;
