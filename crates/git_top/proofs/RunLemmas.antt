@@ -1,14 +1,13 @@
 -- What a run has written, from what decided it.
-use Rattle.std.proofs.Common.{◌≡◌, ◌⊎◌, ℕ, ◌≤◌, ◌^◌, List, length, Option, Some, None, Result, Ok, Err, refl, sym, ◌∙◌, subst, arith, inl, inr}
+use Rattle.std.proofs.Common.{◌≡◌, ◌⊎◌, ℕ, ◌≤◌, ◌^◌, List, length, Option, Some, None, Result, Ok, Err, sym, ◌∙◌, subst, inl, inr}
 use Rattle.std.specs.Prelude.{IfOk, IfErr, IfSome, MatchResult}
-use Rattle.std.specs.Io.KnownBytes.{Keeps, Appends}
+use Rattle.std.specs.Io.KnownBytes.{Appends}
 use Rattle.git_base.specs.Faults.{Rose}
-use Rattle.git_base.specs.Fronts.{GrowsByFront}
 use Rattle.git_base.specs.declared.status.Status.{Status}
 use Rattle.git_base.specs.declared.status.Status.TheVariants as statuses
 use Rattle.git_defs.specs.Listings.{Listing}
 use Rattle.git_ints.specs.Gradings.{Degrees}
-use Rattle.git_text.specs.Grammar.{IsInput, IsNotBuilt, IsBad}
+use Rattle.git_text.specs.Grammar.{IsInput}
 use Rattle.git_top.specs.ListingText.{listing_text}
 use Rattle.git_top.specs.Run.{IsRefused, IsUnbuilt, IsPlaneInput, fan_words, Decides, HasWritten, WritesOr, Refuses, RefusesBytes}
 

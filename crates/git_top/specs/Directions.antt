@@ -1,5 +1,5 @@
 -- Directions as vectors.
-use Rattle.std.specs.Prelude.{List, [], ◌∷◌, ℤ}
+use Rattle.std.specs.Prelude.{[], ◌∷◌}
 use Rattle.std.proofs.Math.IntN.{neg_ℤ}
 use Rattle.git_defs.specs.Vectors.{Vector}
 use Rattle.git_top.specs.declared.direction.Direction.{Direction}

@@ -1,4 +1,4 @@
-use Rattle.std.proofs.Common.{refl, sym, ◌∙◌, ◌≡◌}
+use Rattle.std.proofs.Common.{refl, ◌∙◌}
 use Rattle.git_base.specs.declared.status.Status.TheVariants as statuses
 use Rattle.git_top.specs.Run.{words_of}
 use Rattle.git_top.proofs.RunLemmas.{has_written, complete_never}
