@@ -13,3 +13,4 @@ pub mod Gradings
 pub mod Places
 pub mod Behind
 pub mod Unique
+pub mod Examples

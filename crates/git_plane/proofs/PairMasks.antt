@@ -20,10 +20,6 @@ use Rattle.git_plane.proofs.Directions.{AreAhead, HasColumn, HasDirection, direc
 use Rattle.git_plane.proofs.Masks.{IsMaskOf, mask_of}
 use Rattle.git_plane.proofs.PairCones.{Inside, Opens, inside_of_cone, inside_of_pair, pair_has_high, pair_has_low, pair_of_inside, pair_within, two_have}
 
--- each mask is accepted
-abbrev pub any : ℕ → Type 0
-any m = Unit {0}
-
 -- the greatest mask of the cone of two vectors
 pub record IsSpanMask (qs : List Vector) (low high : Vector) (mask : ℕ) : Type 0 where
   pub greatest : IsGreatestMask 2 qs (λ _. Unit {0}) mask

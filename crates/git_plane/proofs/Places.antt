@@ -14,7 +14,7 @@ use Rattle.git_defs.specs.Vectors.{Vector}
 use Rattle.git_plane.proofs.Sorting.{Ascends, ascends_of_pairs, once}
 
 -- ---- places
-some_same : {X : Type 0} (x y : X) → Some x ≡ Some y → x ≡ y
+pub some_same : {X : Type 0} (x y : X) → Some x ≡ Some y → x ≡ y
 some_same x y e = cc e
 
 pub place_contains : {X : Type 0} (xs : List X) (i : ℕ) (x : X) → slice_get xs i ≡ Some x → Contains xs x

@@ -190,7 +190,7 @@ same_side n u v p q r =
         (diff_mul (diff_add (diff_mul (diff k) (diff a)) (diff_add (diff_mul (diff l) (diff b)) (diff (pos 0)))) (diff y)) (omega arith) in
         let f = none k (cross a b x y) level in omega (arith, ints, e, f)
 
--- u is a positive multiple of a positive part of v
+-- u lies on the ray of v, and is not 0 where v is not
 pub record IsAlong (u v : Vector) : Type 0 where
   pub on : OnRay u v
   pub some : 0 < on.times

@@ -1,3 +1,4 @@
 pub mod PlaneListings
 pub mod Neighbours
 pub mod Laws
+pub mod Instances

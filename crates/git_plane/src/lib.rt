@@ -11,6 +11,7 @@ ghost use Rattle.git_plane.specs.Laws.{
   PlaneListingHasTheChambers,
   GradingHasOneListing,
 };
+ghost use Rattle.git_plane.specs.Instances.{FourColumnsHaveTwoChambers};
 
 /// The rays of the cone of two primitive vectors are these two, and its facets are 0 at the one and
 /// positive at the other.
@@ -42,4 +43,10 @@ pub fn plane_listing_has_the_chambers()
 /// A grading with two rows has at most one listing: what is printed of its chambers is determined.
 pub fn grading_has_one_listing()
     ensures { GradingHasOneListing }
+{}
+
+/// The listing of four columns with three directions, worked by hand: two chambers, each behind a
+/// facet of the other.
+pub fn four_columns_have_two_chambers()
+    ensures { FourColumnsHaveTwoChambers }
 {}
