@@ -26,11 +26,11 @@ use Rattle.git_plane.specs.PlaneListings.{AreNeighbours}
 
 module _ (n : Vector) (qs ds : List Vector) (a : AreAhead n qs ds) where
   -- ---- a direction has one neighbour on each side
-  high_of_low : (low high other : Vector) → AreNeighbours ds low high → AreNeighbours ds low other → high ≡ other
+  pub high_of_low : (low high other : Vector) → AreNeighbours ds low high → AreNeighbours ds low other → high ≡ other
   high_of_low low high other p q = direction_once n qs ds high other a (contains_member high ds p.high_in) (contains_member other ds q.high_in)
       (λ t. q.none_between high p.high_in p.turns t) (λ t. p.none_between other q.high_in q.turns t)
 
-  low_of_high : (low other high : Vector) → AreNeighbours ds low high → AreNeighbours ds other high → low ≡ other
+  pub low_of_high : (low other high : Vector) → AreNeighbours ds low high → AreNeighbours ds other high → low ≡ other
   low_of_high low other high p q = direction_once n qs ds low other a (contains_member low ds p.low_in) (contains_member other ds q.low_in)
       (λ t. p.none_between other q.low_in t q.turns) (λ t. q.none_between low p.low_in t p.turns)
 

@@ -14,7 +14,7 @@ use Rattle.git_geometry.proofs.Facets.{rays_of_exact}
 use Rattle.git_geometry.proofs.Rays.{dual_cut, rays_along, same_back, same_through}
 use Rattle.git_geometry.specs.Generators.{Generates}
 use Rattle.git_geometry.specs.Zeros.{AreUndominated, Dominates}
-use Rattle.git_ints.proofs.Turns.{between_in_cone, turn-self}
+use Rattle.git_ints.proofs.Turns.{between_in_cone, turn-self, turn-swap}
 use Rattle.git_ints.specs.Plane.{turn}
 use Rattle.git_plane.proofs.Turns.{dot-left, dot-right, left-right, length-left, length-right, primitive_left, primitive_right, right-left, turn-quarters}
 use Rattle.git_plane.specs.PlaneListings.{IsPairOf, quarter_left, quarter_right}
@@ -45,6 +45,12 @@ pub pair_turned : {X : Type 0} (u v : X) (list : List X) → IsPairOf u v list �
 pair_turned u v list (inl e) = inr e
 pair_turned u v list (inr e) = inl e
 
+heads_same : (u v x y : Vector) → u ∷ v ∷ [] ≡ x ∷ y ∷ [] → u ≡ x
+heads_same u v x y e = cc e
+
+seconds_same : (u v x y : Vector) → u ∷ v ∷ [] ≡ x ∷ y ∷ [] → v ≡ y
+seconds_same u v x y e = cc e
+
 -- ---- what lies between two vectors
 -- the second vector lies to the left of the first
 pub record Opens (low high : Vector) : Type 0 where
@@ -57,6 +63,27 @@ pub record Inside (low high v : Vector) : Type 0 where
   pub entries : length v ≡ 2
   pub after : pos 0 ≤ℤ turn low v
   pub before : pos 0 ≤ℤ turn v high
+
+-- the order of two vectors by turns is known from the list of the two
+pub ends_of_pair : (u v x y : Vector) (list : List Vector) → Opens u v → Opens x y → IsPairOf u v list → IsPairOf x y list → (u ≡ x) × (v ≡ y)
+ends_of_pair u v x y list o r = by where
+  crossed : u ∷ v ∷ [] ≡ y ∷ x ∷ [] → (u ≡ x) × (v ≡ y)
+  crossed e =
+      let s = turn-swap x y r.low_entries r.high_entries in
+      let f : turn u v ≡ turn y x = (λ i. turn (heads_same u v y x e i) (seconds_same u v y x e i)) in
+      let p = o.turns in let q = r.turns in absurd (omega (arith, ints, s, f, p, q))
+
+  straight : u ∷ v ∷ [] ≡ x ∷ y ∷ [] → (u ≡ x) × (v ≡ y)
+  straight e = (heads_same u v x y e, seconds_same u v x y e)
+
+  turned : (a b c d : Vector) → a ∷ b ∷ [] ≡ c ∷ d ∷ [] → b ∷ a ∷ [] ≡ d ∷ c ∷ []
+  turned a b c d e = λ i. seconds_same a b c d e i ∷ heads_same a b c d e i ∷ []
+
+  by : IsPairOf u v list → IsPairOf x y list → (u ≡ x) × (v ≡ y)
+  by (inl e) (inl f) = straight (sym e ∙ f)
+  by (inl e) (inr f) = crossed (sym e ∙ f)
+  by (inr e) (inl f) = crossed (turned v u x y (sym e ∙ f))
+  by (inr e) (inr f) = straight (turned v u y x (sym e ∙ f))
 
 pub two_have : (u v : Vector) → Opens u v → OfLength 2 (u ∷ v ∷ [])
 two_have u v o = more_of_length 2 u (v ∷ []) o.low_entries (more_of_length 2 v [] o.high_entries (none_of_length 2))

@@ -1,5 +1,5 @@
 -- Lists of chambers by places, and by their lists of rays.
-use Rattle.std.proofs.Common.{◌≡◌, ◌<◌, ◌⊎◌, ◌∙◌, ◌∷◌, [], List, ap, arith, get_or, inl, inr, length, map, option_map, refl, subst, sym, suc, zero, ℕ}
+use Rattle.std.proofs.Common.{◌≡◌, ◌≢◌, ◌<◌, ◌⊎◌, ◌∙◌, ◌∷◌, [], List, ap, arith, get_or, inl, inr, length, map, option_map, refl, subst, sym, suc, zero, ℕ}
 use Rattle.std.proofs.lemmas.List.{length-map}
 use Rattle.std.proofs.lemmas.Option.{get_or_from_slice_get, slice_get-get_or, slice_get-map, slice_get_within}
 use Rattle.std.specs.Cmp.{IsTotalOrder, int_cmp_total}
@@ -10,7 +10,7 @@ use Rattle.std.specs.declared.cmp.Ordering.{Ordering}
 use Rattle.std.specs.declared.cmp.Ordering.TheVariants.{Equal, Greater, Less}
 use Rattle.git_defs.proofs.Members.{Member}
 use Rattle.git_defs.specs.Listings.{Chamber, RaysPrecede}
-use Rattle.git_defs.specs.Vectors.{Vector}
+use Rattle.git_defs.specs.Vectors.{Precedes, Vector}
 use Rattle.git_plane.proofs.Sorting.{Ascends, ascends_of_pairs, once}
 
 -- ---- places
@@ -59,6 +59,13 @@ not_self Greater e h = cc h
 
 before_irreflexive : (us : List Vector) → Before us us → ⊥
 before_irreflexive us h = not_self (slice_cmp (slice_cmp int_cmp) us us) (total.antisymm us us) h
+
+precedes_irreflexive : (v : Vector) → Precedes v v → ⊥
+precedes_irreflexive v h = not_self (slice_cmp int_cmp v v) ((lists_total int_cmp_total).antisymm v v) h
+
+-- vectors in order are distinct
+pub distinct_of_ordered : (vs : List Vector) → AllPairs Precedes vs → AllPairs (λ u v. u ≢ v) vs
+distinct_of_ordered vs ordered i j d lt within e = precedes_irreflexive (get_or vs j d) (subst (λ (x : Vector). Precedes x (get_or vs j d)) e (ordered i j d lt within))
 
 abbrev pub ray_lists : List Chamber → List (List Vector)
 ray_lists cs = map (λ c. c.rays) cs

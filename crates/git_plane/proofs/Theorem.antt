@@ -6,14 +6,16 @@ use Rattle.git_defs.specs.Faces.{AreCones, cone_at}
 use Rattle.git_defs.specs.Listings.{IsRankTwoListing, Listing}
 use Rattle.git_defs.specs.Vectors.{Vector}
 use Rattle.git_ints.specs.Gradings.{IsGrading}
+use Rattle.git_plane.proofs.Behind.{high_of_low, low_of_high}
 use Rattle.git_plane.proofs.Chambers.{ArePairCones, chamber_of_between}
-use Rattle.git_plane.proofs.Directions.{AreAhead, are_ahead}
+use Rattle.git_plane.proofs.Directions.{AreAhead, are_ahead, neighbours_open}
 use Rattle.git_plane.proofs.Gradings.{IsOneSided, grading_side}
 use Rattle.git_plane.proofs.Listed.{AreBetween, all_listed, each_listed}
 use Rattle.git_plane.proofs.MaskLists.{HasConeList, cone_list, cones_once}
+use Rattle.git_plane.proofs.PairCones.{ends_of_pair}
 use Rattle.git_plane.proofs.Search.{has_neighbours}
 use Rattle.git_plane.specs.Neighbours.{IsBetweenNeighbours}
-use Rattle.git_plane.specs.PlaneListings.{AreDirections, IsPlaneListing}
+use Rattle.git_plane.specs.PlaneListings.{AreDirections, AreNeighbours, IsPairOf, IsPlaneListing}
 
 module _ (qs : List Vector) (grading : IsGrading 2 qs) where
   side : IsOneSided qs
@@ -24,6 +26,14 @@ module _ (qs : List Vector) (grading : IsGrading 2 qs) where
 
   pub weight_has_neighbours : (ds : List Vector) (w : Vector) → AreDirections qs ds → IsGeneric 2 qs w → IsBetweenNeighbours ds w
   weight_has_neighbours ds w given generic = has_neighbours side.normal qs ds (ahead ds given) side.wedge w generic
+
+  pub one_neighbour : (ds : List Vector) (d one other : Vector) → AreDirections qs ds → (AreNeighbours ds d one → AreNeighbours ds d other → one ≡ other) × (AreNeighbours ds one d → AreNeighbours ds other d → one ≡ other)
+  one_neighbour ds d one other given = (high_of_low side.normal qs ds (ahead ds given) d one other, low_of_high side.normal qs ds (ahead ds given) one other d)
+
+  pub neighbours_of_pair : (ds : List Vector) (low high first second : Vector) (rays : List Vector) → AreDirections qs ds → AreNeighbours ds low high → AreNeighbours ds first second
+      → IsPairOf low high rays → IsPairOf first second rays → (low ≡ first) × (high ≡ second)
+  neighbours_of_pair ds low high first second rays given p q = ends_of_pair low high first second rays
+      (neighbours_open side.normal qs ds low high (ahead ds given) p) (neighbours_open side.normal qs ds first second (ahead ds given) q)
 
   module _ (ds : List Vector) (given : AreDirections qs ds) where
     cones : HasConeList side.normal qs ds (ahead ds given)

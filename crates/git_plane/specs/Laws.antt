@@ -7,7 +7,7 @@ use Rattle.git_defs.specs.Chambers.{InChamberOf, IsGeneric}
 use Rattle.git_defs.specs.Listings.{Listing, IsRankTwoListing}
 use Rattle.git_ints.specs.Gradings.{IsGrading}
 use Rattle.git_ints.specs.Plane.{turn}
-use Rattle.git_plane.specs.PlaneListings.{quarter_left, quarter_right, IsPairOf, AreDirections, IsPlaneListing}
+use Rattle.git_plane.specs.PlaneListings.{quarter_left, quarter_right, IsPairOf, AreDirections, AreNeighbours, IsPlaneListing}
 use Rattle.git_plane.specs.Neighbours.{IsBetweenNeighbours}
 
 -- the rays of the cone of two primitive vectors are these, and its facets are 0 at one and positive at the other
@@ -20,6 +20,17 @@ ConeOfTwoHasItsRaysAndFacets = (low high : Vector) (rays normals : List Vector) 
 abbrev pub ConesArePairsOfDirections : Type 0
 ConesArePairsOfDirections = (columns directions : List Vector) (masks : List ℕ) → IsGrading 2 columns → AreDirections columns directions → AreCones 2 columns (λ _. Unit {0}) masks
     → length masks ≡ length directions * (length directions - 1) / 2
+
+-- a direction has at most one neighbour to its left, and at most one to its right
+abbrev pub DirectionHasOneNeighbourEachWay : Type 0
+DirectionHasOneNeighbourEachWay = (columns directions : List Vector) (direction one other : Vector) → IsGrading 2 columns → AreDirections columns directions
+    → (AreNeighbours directions direction one → AreNeighbours directions direction other → one ≡ other)
+    × (AreNeighbours directions one direction → AreNeighbours directions other direction → one ≡ other)
+
+-- which of two neighbours is to the left is known from the list of the two
+abbrev pub PairTellsItsEnds : Type 0
+PairTellsItsEnds = (columns directions : List Vector) (low high first second : Vector) (rays : List Vector) → IsGrading 2 columns → AreDirections columns directions
+    → AreNeighbours directions low high → AreNeighbours directions first second → IsPairOf low high rays → IsPairOf first second rays → (low ≡ first) × (high ≡ second)
 
 -- each generic weight lies strictly between two neighbouring directions
 abbrev pub GenericWeightHasNeighbours : Type 0

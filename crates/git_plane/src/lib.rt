@@ -6,6 +6,8 @@
 ghost use Rattle.git_plane.specs.Laws.{
   ConeOfTwoHasItsRaysAndFacets,
   ConesArePairsOfDirections,
+  DirectionHasOneNeighbourEachWay,
+  PairTellsItsEnds,
   GenericWeightHasNeighbours,
   ChamberIsConeOfNeighbours,
   PlaneListingHasTheChambers,
@@ -22,6 +24,17 @@ pub fn cone_of_two_has_its_rays_and_facets()
 /// The distinct cones of full faces are as many as pairs of directions of columns.
 pub fn cones_are_pairs_of_directions()
     ensures { ConesArePairsOfDirections }
+{}
+
+/// A direction has at most one neighbour to its left, and at most one to its right.
+pub fn direction_has_one_neighbour_each_way()
+    ensures { DirectionHasOneNeighbourEachWay }
+{}
+
+/// Which of two neighbours lies to the left is known from the list of the two, in either order: pairs of
+/// neighbours with the same list of rays are the same pair.
+pub fn pair_tells_its_ends()
+    ensures { PairTellsItsEnds }
 {}
 
 /// Each generic weight lies strictly between two neighbouring directions.
