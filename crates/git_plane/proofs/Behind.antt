@@ -91,7 +91,8 @@ module _ (n : Vector) (qs ds : List Vector) (a : AreAhead n qs ds) where
           (λ b m. flat b (chosen_member 2 (low ∷ high ∷ []) rank b m)))
 
     -- chambers with the same ends have the same rays
-    same_rays : (cs : List Chamber) (i j : ℕ) (c d : Chamber) (h : IsListed qs masks cs i c) (k : IsListed qs masks cs j d) → low cs i c h ≡ low cs j d k → high cs i c h ≡ high cs j d k → c.rays ≡ d.rays
+    same_rays : (cs : List Chamber) (i j : ℕ) (c d : Chamber) (h : IsListed qs masks cs i c) (k : IsListed qs masks cs j d)
+        → low cs i c h ≡ low cs j d k → high cs i c h ≡ high cs j d k → c.rays ≡ d.rays
     same_rays cs i j c d h k e f =
         let C = chamber_cone qs masks c in let D = chamber_cone qs masks d in
         let P = InCone 2 (low cs i c h ∷ high cs i c h ∷ []) in let Q = InCone 2 (low cs j d k ∷ high cs j d k ∷ []) in
@@ -109,7 +110,8 @@ module _ (n : Vector) (qs ds : List Vector) (a : AreAhead n qs ds) where
       this : IsListed qs masks cs i c
       this = each i c at
 
-      beyond : (j : ℕ) (h : IsNeighbour qs masks cs i c normal j) → Beyond (low cs i c this) (high cs i c this) h.meets.ray (low cs j h.other (each j h.other h.listed)) (high cs j h.other (each j h.other h.listed))
+      beyond : (j : ℕ) (h : IsNeighbour qs masks cs i c normal j)
+          → Beyond (low cs i c this) (high cs i c this) h.meets.ray (low cs j h.other (each j h.other h.listed)) (high cs j h.other (each j h.other h.listed))
       beyond j h = by (ray_is_end cs i c this v h.meets.is_ray) where
         v : Vector
         v = h.meets.ray

@@ -71,7 +71,8 @@ module _ (n : Vector) (qs ds : List Vector) (a : AreAhead n qs ds) (low high : V
       by (right q) = absurd (near.none_between d (member_contains d ds m) (turn_on n low w d a.entries lows weight this after p) q)
 
     -- a cone of two directions that holds the weight holds the cone of the neighbours
-    neighbours_within : (u v : Vector) → Member u ds → Member v ds → pos 0 <ℤ turn u v → InCone 2 (u ∷ v ∷ []) w → (x : Vector) → InCone 2 (low ∷ high ∷ []) x → InCone 2 (u ∷ v ∷ []) x
+    neighbours_within : (u v : Vector) → Member u ds → Member v ds → pos 0 <ℤ turn u v → InCone 2 (u ∷ v ∷ []) w → (x : Vector)
+        → InCone 2 (low ∷ high ∷ []) x → InCone 2 (u ∷ v ∷ []) x
     neighbours_within u v m k turns holds = pair_within low high (u ∷ v ∷ []) (two_have u v o)
         (pair_of_inside u v low o (record {
           entries = lows.entries;

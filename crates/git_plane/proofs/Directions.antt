@@ -72,7 +72,8 @@ are_ahead n qs ds e columns given = record {
   along d m = let h = given.along d (member_contains d ds m) in (h.0, contains_member h.0 qs h.1, h.2)
 
 -- ---- each list of columns ahead has directions
-member_or_not : (n w : Vector) (vs : List Vector) → length n ≡ 2 → IsAhead n w → IsPrimitive w → ((v : Vector) → Member v vs → IsAhead n v) → ((v : Vector) → Member v vs → IsPrimitive v)
+member_or_not : (n w : Vector) (vs : List Vector) → length n ≡ 2 → IsAhead n w → IsPrimitive w → ((v : Vector) → Member v vs → IsAhead n v)
+    → ((v : Vector) → Member v vs → IsPrimitive v)
     → Member w vs ⊎ (Member w vs → ⊥)
 member_or_not n w [] e a p aheads primitives = inr (λ m. m)
 member_or_not n w (v ∷ vs) e a p aheads primitives = elim (same_or_not n v w e (aheads v (inl refl)) a (primitives v (inl refl)) p) [
@@ -96,7 +97,8 @@ column_known n q qs ds a this d = record {
 }
 
 -- one column more, and its direction
-column_new : (n q w : Vector) (qs ds : List Vector) → AreAhead n qs ds → IsAhead n q → IsAhead n w → IsPrimitive w → IsMultiple w q → (Member w ds → ⊥) → AreAhead n (q ∷ qs) (w ∷ ds)
+column_new : (n q w : Vector) (qs ds : List Vector) → AreAhead n qs ds → IsAhead n q → IsAhead n w → IsPrimitive w → IsMultiple w q
+    → (Member w ds → ⊥) → AreAhead n (q ∷ qs) (w ∷ ds)
 column_new n q w qs ds a this ahead primitive multiple none = record {
   entries = a.entries;
   columns = λ x m. elim m [ inl e ↦ subst (IsAhead n) e this | inr k ↦ a.columns x k ];
@@ -229,7 +231,8 @@ generic_turns n qs ds w d a g m e =
     g.off_rays c.column (member_contains c.column qs c.member) along.on along.some
 
 -- two directions, neither of which lies to the left of the other, are equal
-pub direction_once : (n : Vector) (qs ds : List Vector) (u v : Vector) → AreAhead n qs ds → Member u ds → Member v ds → (pos 0 <ℤ turn u v → ⊥) → (pos 0 <ℤ turn v u → ⊥) → u ≡ v
+pub direction_once : (n : Vector) (qs ds : List Vector) (u v : Vector) → AreAhead n qs ds → Member u ds → Member v ds → (pos 0 <ℤ turn u v → ⊥)
+    → (pos 0 <ℤ turn v u → ⊥) → u ≡ v
 direction_once n qs ds u v a m k not_left not_right = by (turning u v (a.directions u m).entries (a.directions v k).entries) where
   by : Turning u v → u ≡ v
   by (left t) = absurd (not_left t)
@@ -245,7 +248,8 @@ neighbours_open n qs ds low high a h = record {
 }
 
 -- a direction in the cone of two neighbours is one of them
-pub neighbours_hold : (n : Vector) (qs ds : List Vector) (low high d : Vector) → AreAhead n qs ds → AreNeighbours ds low high → Member d ds → Inside low high d → (low ≡ d) ⊎ (high ≡ d)
+pub neighbours_hold : (n : Vector) (qs ds : List Vector) (low high d : Vector) → AreAhead n qs ds → AreNeighbours ds low high → Member d ds
+    → Inside low high d → (low ≡ d) ⊎ (high ≡ d)
 neighbours_hold n qs ds low high d a h m i = by (turning low d lows.entries this.entries) (turning d high this.entries highs.entries) where
   low_in : Member low ds
   low_in = contains_member low ds h.low_in

@@ -135,7 +135,8 @@ module _ (n : Vector) (qs ds : List Vector) (a : AreAhead n qs ds) (masks : List
   -- ---- what lies behind a facet
   module _ (chambers : List Chamber) (listed : AreBetween ds chambers) where
     -- a listed chamber that holds a direction has it as a ray
-    ray_of_held : (j : ℕ) (other : Chamber) (ray : Vector) → slice_get chambers j ≡ Some other → Member ray ds → chamber_cone qs masks other ray → Contains other.rays ray
+    ray_of_held : (j : ℕ) (other : Chamber) (ray : Vector) → slice_get chambers j ≡ Some other → Member ray ds → chamber_cone qs masks other ray
+        → Contains other.rays ray
     ray_of_held j other ray e m held =
         let h = listed.each j other e in
         let o = neighbours_open n qs ds h.0 h.1 a h.2 in
@@ -160,7 +161,8 @@ module _ (n : Vector) (qs ds : List Vector) (a : AreAhead n qs ds) (masks : List
       level : dot normal ray ≡ pos 0
       alone : (r : Vector) → Member r c.rays → dot normal r ≡ pos 0 → ray ≡ r
 
-    side_of : (i : ℕ) (c : Chamber) (ray normal : Vector) → IsWall c ray normal → (side : Side) → IsSideAt chambers i ray side → IsSide qs masks chambers i c normal side
+    side_of : (i : ℕ) (c : Chamber) (ray normal : Vector) → IsWall c ray normal → (side : Side) → IsSideAt chambers i ray side
+        → IsSide qs masks chambers i c normal side
     side_of i c ray normal wall boundary none = λ j h. none j (record {
       other = h.other;
       listed = h.listed;
@@ -216,7 +218,8 @@ module _ (n : Vector) (qs ds : List Vector) (a : AreAhead n qs ds) (masks : List
         high_side : IsSide qs masks chambers i c pair.high_facet.normal pair.high_facet.side
         high_side = side_by pair.high_facet high (quarter_right high) wall_at_high pair.at_high
 
-        one_of : (g h : Facet) → IsSide qs masks chambers i c g.normal g.side → IsSide qs masks chambers i c h.normal h.side → Member f (g ∷ h ∷ []) → IsSide qs masks chambers i c f.normal f.side
+        one_of : (g h : Facet) → IsSide qs masks chambers i c g.normal g.side → IsSide qs masks chambers i c h.normal h.side → Member f (g ∷ h ∷ [])
+            → IsSide qs masks chambers i c f.normal f.side
         one_of g h p q (inl e) = subst (λ (f : Facet). IsSide qs masks chambers i c f.normal f.side) e p
         one_of g h p q (inr (inl e)) = subst (λ (f : Facet). IsSide qs masks chambers i c f.normal f.side) e q
         one_of g h p q (inr (inr o)) = absurd o
@@ -239,7 +242,8 @@ module _ (n : Vector) (qs ds : List Vector) (a : AreAhead n qs ds) (masks : List
     each_listed i c e = let h = listed.each i c e in chamber_listed h.0 h.1 h.2 i c h.3
 
     -- and the chamber of each generic weight is listed
-    pub all_listed : HasWedge qs → (w : Vector) → IsGeneric 2 qs w → (c : Chamber) × Contains chambers c × AreRays 2 (InChamberOf (length masks) (cone_at 2 qs masks) w) c.rays
+    pub all_listed : HasWedge qs → (w : Vector) → IsGeneric 2 qs w
+        → (c : Chamber) × Contains chambers c × AreRays 2 (InChamberOf (length masks) (cone_at 2 qs masks) w) c.rays
     all_listed wedge w generic =
         let b = has_neighbours n qs ds a wedge w generic in
         let h = listed.all b.low b.high b.near in

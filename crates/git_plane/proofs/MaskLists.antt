@@ -124,7 +124,8 @@ module _ (n : Vector) (qs ds : List Vector) (a : AreAhead n qs ds) where
   same_span u v x y m p q = let C = face_cone 2 qs m in let P = InCone 2 (u ∷ v ∷ []) in same_through P C (InCone 2 (x ∷ y ∷ [])) (same_back C P p.same) q.same
 
   row_more : (d e : Vector) (es : List Vector) (mask : ℕ) (row : List ℕ) → Member d ds → ((x : Vector) → Member x (e ∷ es) → Member x ds)
-      → ((x : Vector) → Member x (e ∷ es) → TurnsTo n d x) → ((x : Vector) → Member x es → TurnsTo n e x) → IsSpanMask qs d e mask → IsRow d es row → IsRow d (e ∷ es) (mask ∷ row)
+      → ((x : Vector) → Member x (e ∷ es) → TurnsTo n d x) → ((x : Vector) → Member x es → TurnsTo n e x) → IsSpanMask qs d e mask → IsRow d es row
+      → IsRow d (e ∷ es) (mask ∷ row)
   row_more d e es mask row m within turns before span rest = record {
     size = ap suc rest.size;
     from = from;
@@ -144,7 +145,8 @@ module _ (n : Vector) (qs ds : List Vector) (a : AreAhead n qs ds) where
         let f = (ends_once n qs ds a d e d r.0 m (within e (inl refl)) m (within r.0 (inr r.1)) (turns e (inl refl)).turns (turns r.0 (inr r.1)).turns (same_span d e d r.0 mask span r.2)).1 in
         not_itself n e (subst (TurnsTo n e) (sym f) (before r.0 r.1))
 
-  row_of : (d : Vector) (es : List Vector) → Member d ds → ((e : Vector) → Member e es → Member e ds) → ((e : Vector) → Member e es → TurnsTo n d e) → Ascends (TurnsTo n) es → (row : List ℕ) × IsRow d es row
+  row_of : (d : Vector) (es : List Vector) → Member d ds → ((e : Vector) → Member e es → Member e ds) → ((e : Vector) → Member e es → TurnsTo n d e)
+      → Ascends (TurnsTo n) es → (row : List ℕ) × IsRow d es row
   row_of d [] m within turns ascends = ([], record { size = refl; from = λ k h. absurd h; all = λ e h. absurd h; distinct = tt })
   row_of d (e ∷ es) m within turns ascends =
       let rest = row_of d es m (λ x h. within x (inr h)) (λ x h. turns x (inr h)) ascends.1 in
@@ -154,7 +156,8 @@ module _ (n : Vector) (qs ds : List Vector) (a : AreAhead n qs ds) where
   backwards : (u v : Vector) → TurnsTo n u v → pos 0 <ℤ turn v u → ⊥
   backwards u v p t = let s = turn-swap u v p.first.entries p.second.entries in let q = p.turns in omega (arith, ints, s, t, q)
 
-  triangle_more : (d : Vector) (es : List Vector) (row masks : List ℕ) → ((x : Vector) → Member x (d ∷ es) → Member x ds) → ((x : Vector) → Member x es → TurnsTo n d x)
+  triangle_more : (d : Vector) (es : List Vector) (row masks : List ℕ) → ((x : Vector) → Member x (d ∷ es) → Member x ds)
+      → ((x : Vector) → Member x es → TurnsTo n d x)
       → IsRow d es row → IsTriangle es masks → IsTriangle (d ∷ es) (row ++ masks)
   triangle_more d es row masks within before r t = record {
     size = (let p = r.size in let q = t.size in let s = length-append row masks in omega (arith, p, q, s));

@@ -153,7 +153,8 @@ undominated u v list o pair = record {
       (each_of_two (λ (s : Vector). Dominates (quarter_left u ∷ quarter_right v ∷ []) s u → s ≡ u) u v (λ k i. u) not_high s n)
       (each_of_two (λ (s : Vector). Dominates (quarter_left u ∷ quarter_right v ∷ []) s v → s ≡ v) u v not_low (λ k i. v) s n) r m d
 
-pub pair_rays : (u v : Vector) (list : List Vector) → Opens u v → IsPrimitive u → IsPrimitive v → IsPairOf u v list → AllPairs Precedes list → AreRays 2 (InCone 2 (u ∷ v ∷ [])) list
+pub pair_rays : (u v : Vector) (list : List Vector) → Opens u v → IsPrimitive u → IsPrimitive v → IsPairOf u v list → AllPairs Precedes list
+    → AreRays 2 (InCone 2 (u ∷ v ∷ [])) list
 pair_rays u v list o p q pair ordered =
     let A = quarter_left u ∷ quarter_right v ∷ [] in
     rays_along 2 (Cut 2 A) (InCone 2 (u ∷ v ∷ [])) list (same_back (InCone 2 (u ∷ v ∷ [])) (Cut 2 A) (pair_cut u v o))
@@ -182,7 +183,8 @@ dual_is_quarters u v o =
     (same_through quarters (Cut 2 (v ∷ u ∷ [])) (Cut 2 (u ∷ v ∷ [])) cut (cut_turned u v))
     (same_back (Dual 2 (InCone 2 (u ∷ v ∷ []))) (Cut 2 (u ∷ v ∷ [])) (dual_cut 2 (u ∷ v ∷ []) (two_have u v o)))
 
-pub pair_facets : (u v : Vector) (list : List Vector) → Opens u v → IsPrimitive u → IsPrimitive v → IsPairOf (quarter_left u) (quarter_right v) list → AllPairs Precedes list
+pub pair_facets : (u v : Vector) (list : List Vector) → Opens u v → IsPrimitive u → IsPrimitive v → IsPairOf (quarter_left u) (quarter_right v) list
+    → AllPairs Precedes list
     → AreFacets 2 (InCone 2 (u ∷ v ∷ [])) list
 pair_facets u v list o p q pair ordered =
     rays_along 2 (InCone 2 (quarter_right v ∷ quarter_left u ∷ [])) (Dual 2 (InCone 2 (u ∷ v ∷ []))) list (dual_is_quarters u v o)

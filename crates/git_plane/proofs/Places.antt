@@ -91,19 +91,22 @@ rays_ascend [] a = tt
 rays_ascend (c ∷ cs) a = (λ rays m. (let r = with_rays cs rays m in subst (Before c.rays) r.is (a.0 r.one r.member)), rays_ascend cs a.1)
 
 -- ordered chambers with the same lists of rays have them in one order
-pub same_ray_lists : (cs ds : List Chamber) → AllPairs RaysPrecede cs → AllPairs RaysPrecede ds → ((rays : List Vector) → Member rays (ray_lists cs) → Member rays (ray_lists ds))
+pub same_ray_lists : (cs ds : List Chamber) → AllPairs RaysPrecede cs → AllPairs RaysPrecede ds
+    → ((rays : List Vector) → Member rays (ray_lists cs) → Member rays (ray_lists ds))
     → ((rays : List Vector) → Member rays (ray_lists ds) → Member rays (ray_lists cs)) → ray_lists cs ≡ ray_lists ds
 same_ray_lists cs ds p q to back = once Before before_irreflexive total.trans (ray_lists cs) (ray_lists ds)
     (rays_ascend cs (ascends_of_pairs RaysPrecede cs p)) (rays_ascend ds (ascends_of_pairs RaysPrecede ds q)) to back
 
 -- chambers with the same rays stand at one place
-before_apart : (cs : List Chamber) (i j : ℕ) (c d : Chamber) → AllPairs RaysPrecede cs → slice_get cs i ≡ Some c → slice_get cs j ≡ Some d → c.rays ≡ d.rays → i < j → ⊥
+before_apart : (cs : List Chamber) (i j : ℕ) (c d : Chamber) → AllPairs RaysPrecede cs → slice_get cs i ≡ Some c → slice_get cs j ≡ Some d
+    → c.rays ≡ d.rays → i < j → ⊥
 before_apart cs i j c d ordered e f same lt =
     let p : RaysPrecede (get_or cs i c) (get_or cs j c) = ordered i j c lt (slice_get_within cs j d f) in
     let q : Before c.rays d.rays = subst (λ (x : Chamber). Before c.rays x.rays) (get_or_from_slice_get cs j d c f) (subst (λ (x : Chamber). Before x.rays (get_or cs j c).rays) (get_or_from_slice_get cs i c c e) p) in
     before_irreflexive d.rays (subst (λ (us : List Vector). Before us d.rays) same q)
 
-pub place_once : (cs : List Chamber) (i j : ℕ) (c d : Chamber) → AllPairs RaysPrecede cs → slice_get cs i ≡ Some c → slice_get cs j ≡ Some d → c.rays ≡ d.rays → i ≡ j
+pub place_once : (cs : List Chamber) (i j : ℕ) (c d : Chamber) → AllPairs RaysPrecede cs → slice_get cs i ≡ Some c → slice_get cs j ≡ Some d
+    → c.rays ≡ d.rays → i ≡ j
 place_once cs i j c d ordered e f same = by (order i j) where
   order : (i j : ℕ) → (i ≡ j) ⊎ ((i < j) ⊎ (j < i))
   order zero zero = inl refl

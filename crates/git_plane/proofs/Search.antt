@@ -150,7 +150,8 @@ module _ (n : Vector) (qs ds : List Vector) (a : AreAhead n qs ds) where
           let q = multiple_turns e.direction wedge.end.high w w this.entries weight.entries e.multiple itself p in
           let s = turn-swap w wedge.end.high weight.entries ends.high_entries in let b = between.before in omega (arith, ints, q, s, b)
 
-    neighbours_of : Best (λ d. pos 0 <ℤ turn d w) (λ x y. pos 0 ≤ℤ turn y x) ds → Best (λ d. pos 0 <ℤ turn w d) (λ x y. pos 0 ≤ℤ turn x y) ds → IsBetweenNeighbours ds w
+    neighbours_of : Best (λ d. pos 0 <ℤ turn d w) (λ x y. pos 0 ≤ℤ turn y x) ds → Best (λ d. pos 0 <ℤ turn w d) (λ x y. pos 0 ≤ℤ turn x y) ds
+        → IsBetweenNeighbours ds w
     neighbours_of l h = record {
       low = l.one;
       high = h.one;

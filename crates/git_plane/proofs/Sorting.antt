@@ -49,7 +49,8 @@ module _ {X : Type 0} (R : X → X → Type 0) where
     first : (z : X) → Member z list → R y z
     first z m = among z (s.back z m)
 
-  insert : ((x y z : X) → R x y → R y z → R x z) → (x : X) (ys : List X) → Ascends ys → ((y : X) → Member y ys → R x y ⊎ R y x) → (list : List X) × IsSorting (x ∷ ys) list
+  insert : ((x y z : X) → R x y → R y z → R x z) → (x : X) (ys : List X) → Ascends ys → ((y : X) → Member y ys → R x y ⊎ R y x)
+      → (list : List X) × IsSorting (x ∷ ys) list
   insert trans x [] a compare = (x ∷ [], record { size = refl; to = λ z m. m; back = λ z m. m; ascends = (λ z m. absurd m, tt) })
   insert trans x (y ∷ ys) a compare = elim (compare y (inl refl)) [
     | inl r ↦ (x ∷ y ∷ ys, first_sorted trans x y ys a r)

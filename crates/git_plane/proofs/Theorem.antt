@@ -27,10 +27,12 @@ module _ (qs : List Vector) (grading : IsGrading 2 qs) where
   pub weight_has_neighbours : (ds : List Vector) (w : Vector) → AreDirections qs ds → IsGeneric 2 qs w → IsBetweenNeighbours ds w
   weight_has_neighbours ds w given generic = has_neighbours side.normal qs ds (ahead ds given) side.wedge w generic
 
-  pub one_neighbour : (ds : List Vector) (d one other : Vector) → AreDirections qs ds → (AreNeighbours ds d one → AreNeighbours ds d other → one ≡ other) × (AreNeighbours ds one d → AreNeighbours ds other d → one ≡ other)
+  pub one_neighbour : (ds : List Vector) (d one other : Vector) → AreDirections qs ds
+      → (AreNeighbours ds d one → AreNeighbours ds d other → one ≡ other) × (AreNeighbours ds one d → AreNeighbours ds other d → one ≡ other)
   one_neighbour ds d one other given = (high_of_low side.normal qs ds (ahead ds given) d one other, low_of_high side.normal qs ds (ahead ds given) one other d)
 
-  pub neighbours_of_pair : (ds : List Vector) (low high first second : Vector) (rays : List Vector) → AreDirections qs ds → AreNeighbours ds low high → AreNeighbours ds first second
+  pub neighbours_of_pair : (ds : List Vector) (low high first second : Vector) (rays : List Vector) → AreDirections qs ds
+      → AreNeighbours ds low high → AreNeighbours ds first second
       → IsPairOf low high rays → IsPairOf first second rays → (low ≡ first) × (high ≡ second)
   neighbours_of_pair ds low high first second rays given p q = ends_of_pair low high first second rays
       (neighbours_open side.normal qs ds low high (ahead ds given) p) (neighbours_open side.normal qs ds first second (ahead ds given) q)

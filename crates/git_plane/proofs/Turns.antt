@@ -150,7 +150,8 @@ turn_into n u v w e a b c first rest =
     pos_of_mul (dot n v) (turn u w) q (omega (arith, ints, left, right, sum))
 
 -- what lies strictly between two vectors ahead is ahead
-pub ahead_between : (n u v w : Vector) → length n ≡ 2 → IsAhead n u → IsAhead n w → length v ≡ 2 → pos 0 <ℤ turn u w → pos 0 <ℤ turn u v → pos 0 <ℤ turn v w → IsAhead n v
+pub ahead_between : (n u v w : Vector) → length n ≡ 2 → IsAhead n u → IsAhead n w → length v ≡ 2 → pos 0 <ℤ turn u w → pos 0 <ℤ turn u v
+    → pos 0 <ℤ turn v w → IsAhead n v
 ahead_between n u v w e a c f opens first rest =
     let left = mul_pos (dot n u) (turn v w) a.above rest in
     let right = mul_pos (dot n w) (turn u v) c.above first in

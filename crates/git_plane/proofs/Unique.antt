@@ -24,7 +24,8 @@ record AreChambers (qs : List Vector) (masks : List ℕ) (cs : List Chamber) : T
   all : (w : Vector) → IsGeneric 2 qs w → (c : Chamber) × Contains cs c × AreRays 2 (InChamberOf (length masks) (cone_at 2 qs masks) w) c.rays
 
 -- each list of rays of the one is one of the other
-rays_within : (qs : List Vector) (masks : List ℕ) (cs es : List Chamber) → AreChambers qs masks cs → AreChambers qs masks es → (rays : List Vector) → Member rays (ray_lists cs) → Member rays (ray_lists es)
+rays_within : (qs : List Vector) (masks : List ℕ) (cs es : List Chamber) → AreChambers qs masks cs → AreChambers qs masks es → (rays : List Vector)
+    → Member rays (ray_lists cs) → Member rays (ray_lists es)
 rays_within qs masks cs es p q rays m =
     let r = with_rays cs rays m in
     let at = member_place r.one cs r.member in
@@ -53,7 +54,8 @@ module _ (qs : List Vector) (masks : List ℕ) (n : Vector) (ds : List Vector) (
     weights_at i c e at_c at_e = (p.listed i c at_c).weight ∙ ap (vector_sum 2) (rays_at i c e at_c at_e) ∙ sym (q.listed i e at_e).weight
 
     -- a chamber behind a facet in the one listing is behind it in the other
-    neighbour_too : (i j : ℕ) (c e : Chamber) (normal : Vector) → slice_get cs i ≡ Some c → slice_get es i ≡ Some e → IsNeighbour qs masks cs i c normal j → IsNeighbour qs masks es i e normal j
+    neighbour_too : (i j : ℕ) (c e : Chamber) (normal : Vector) → slice_get cs i ≡ Some c → slice_get es i ≡ Some e
+        → IsNeighbour qs masks cs i c normal j → IsNeighbour qs masks es i e normal j
     neighbour_too i j c e normal at_c at_e h =
         let o = other_at cs es j h.other size_same h.listed in
         record {

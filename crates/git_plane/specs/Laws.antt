@@ -30,7 +30,8 @@ DirectionHasOneNeighbourEachWay = (columns directions : List Vector) (direction 
 -- which of two neighbours is to the left is known from the list of the two
 abbrev pub PairTellsItsEnds : Type 0
 PairTellsItsEnds = (columns directions : List Vector) (low high first second : Vector) (rays : List Vector) → IsGrading 2 columns → AreDirections columns directions
-    → AreNeighbours directions low high → AreNeighbours directions first second → IsPairOf low high rays → IsPairOf first second rays → (low ≡ first) × (high ≡ second)
+    → AreNeighbours directions low high → AreNeighbours directions first second → IsPairOf low high rays → IsPairOf first second rays
+    → (low ≡ first) × (high ≡ second)
 
 -- each generic weight lies strictly between two neighbouring directions
 abbrev pub GenericWeightHasNeighbours : Type 0
