@@ -37,7 +37,7 @@ pub coefficient-times_term_none : (m : Exponents) (c : ℕ) (p : Polynomial) (a 
 unfolding times_term
 coefficient-times_term_none m c p a apart =
     coefficient-normal (shift m c p.terms) a
-    ∙ ap (λ n. n % 32003) (coefficient-shift_none m c p.terms a (λ k e. apart (k, e)))
+    ∙ ap (λ n. n % 32003) (coefficient-shift_none m c p.terms a (λ k e. apart (record { cofactor = k; product = e })))
     ∙ omega arith
 
 -- two polynomials with one coefficient at each monomial are one

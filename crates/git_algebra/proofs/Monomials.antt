@@ -4,7 +4,7 @@ use Rattle.std.specs.Prelude.{◌↔◌}
 use Rattle.std.specs.List.{range_with_len, sum_by}
 use Rattle.std.proofs.lemmas.List.{ext_get_or, get_or_past}
 use Rattle.std.proofs.lemmas.List.FromFn.{get_or-map-range_with_len}
-use Rattle.std.proofs.lemmas.List.Sums.{sum-map, sum_by-cons}
+use Rattle.std.proofs.lemmas.List.Sums.{sum-map, sum_by-cons, sum_by-le-sum_by}
 use Rattle.std.proofs.lemmas.Bool.{cases_lt}
 use Rattle.git_algebra.specs.Exponents.{Exponents, same_list, exponent, exponents_by, one, times, power, quotient, lcm, degree, Divides}
 
@@ -80,7 +80,7 @@ pub divides_at_places : (a b : Exponents) → ((i : ℕ) → i < 17 → exponent
 divides_at_places a b each = same_exponents _ _ (λ i h. omega (arith, exponent-times a (quotient b a) i, exponent-quotient b a i, each i h))
 
 pub places_of_divides : (a b : Exponents) → Divides a b → (i : ℕ) → exponent a i ≤ exponent b i
-places_of_divides a b d i = omega (arith, exponent-times a d.0 i, ap (λ m. exponent m i) d.1)
+places_of_divides a b d i = omega (arith, exponent-times a d.cofactor i, ap (λ m. exponent m i) d.product)
 
 pub times-quotient : (a b : Exponents) → Divides a b → times a (quotient b a) ≡ b
 times-quotient a b d = divides_at_places a b (λ i _. places_of_divides a b d i)
@@ -106,19 +106,19 @@ common_multiple a x b y e = same_exponents _ _ (λ i _. omega (
 ))
 
 pub divides_exactly : (a b : Exponents) → Divides a b ↔ ((i : ℕ) → i < 17 → exponent a i ≤ exponent b i)
-divides_exactly a b = (λ d i _. places_of_divides a b d i, λ each. (quotient b a, divides_at_places a b each))
+divides_exactly a b = (λ d i _. places_of_divides a b d i, λ each. record { cofactor = quotient b a; product = divides_at_places a b each })
 
 pub lcm_multiple : (a b : Exponents) → Divides a (lcm a b) × Divides b (lcm a b)
 lcm_multiple a b = (
-  (quotient (lcm a b) a, divides_at_places a (lcm a b) (λ i _. omega (arith, exponent-lcm a b i))),
-  (quotient (lcm a b) b, divides_at_places b (lcm a b) (λ i _. omega (arith, exponent-lcm a b i))),
+  record { cofactor = quotient (lcm a b) a; product = divides_at_places a (lcm a b) (λ i _. omega (arith, exponent-lcm a b i)) },
+  record { cofactor = quotient (lcm a b) b; product = divides_at_places b (lcm a b) (λ i _. omega (arith, exponent-lcm a b i)) },
 )
 
 pub lcm_least : (a b c : Exponents) → Divides a c → Divides b c → Divides (lcm a b) c
-lcm_least a b c d e = (
-  quotient c (lcm a b),
-  divides_at_places (lcm a b) c (λ i _. omega (arith, exponent-lcm a b i, places_of_divides a c d i, places_of_divides b c e i)),
-)
+lcm_least a b c d e = record {
+  cofactor = quotient c (lcm a b);
+  product = divides_at_places (lcm a b) c (λ i _. omega (arith, exponent-lcm a b i, places_of_divides a c d i, places_of_divides b c e i));
+}
 
 pub power-zero : (a : Exponents) → power a 0 ≡ one
 power-zero a = same_exponents _ _ (λ i _. omega (arith, exponent-power a 0 i, exponent-one i))
@@ -150,6 +150,18 @@ degree-times a b =
     degree-by (λ i. exponent a i + exponent b i)
     ∙ sum_by-add (exponent a) (exponent b) (range_with_len 0 17)
     ∙ (λ i. sym (degree_sum a) i + sym (degree_sum b) i)
+
+-- the least common multiple has at most the degree of the product
+pub degree-lcm_le : (a b : Exponents) → degree (lcm a b) ≤ degree a + degree b
+unfolding lcm
+degree-lcm_le a b = omega (
+  arith,
+  degree-by (λ i. max (exponent a i) (exponent b i)),
+  sum_by-le-sum_by (λ i. max (exponent a i) (exponent b i)) (λ i. exponent a i + exponent b i) (range_with_len 0 17) (λ i. omega arith),
+  sum_by-add (exponent a) (exponent b) (range_with_len 0 17),
+  degree_sum a,
+  degree_sum b,
+)
 
 pub degree-one : degree one ≡ 0
 unfolding degree one exponents_by

@@ -56,9 +56,10 @@ lcm a b = exponents_by (λ i. max (exponent a i) (exponent b i))
 unfoldable pub degree : Exponents → ℕ
 degree a = sum a.list
 
--- a divides b: b is a product of a
-abbrev pub Divides : Exponents → Exponents → Type 0
-Divides a b = (c : Exponents) × (times a c ≡ b)
+-- a divides b: b is the product of a and a cofactor
+pub record Divides (a b : Exponents) : Type 0 where
+  pub cofactor : Exponents
+  pub product : times a cofactor ≡ b
 
 -- whether each variable of the monomial is in a face, a set of variables whose mask has bit i for place i
 unfoldable pub in_face : ℕ → Exponents → Bool
