@@ -81,3 +81,31 @@ times_term_is m c p = same_normal (alike_sym (alike_trans (alike-product_left p.
 pub scaled_is : (c : ℕ) (p : Polynomial) → scaled c p ≡ times_term one c p
 unfolding scaled times_term
 scaled_is c p = refl
+
+-- what is a multiple of nothing, or by 0, is nothing
+alike_none : (p : Sum) → ((f : Exponents → ℕ) → value f p ≡ 0) → normal p ≡ zero_polynomial
+unfolding zero_polynomial
+alike_none p none = same_normal (record { values = λ f. mod_is (none f) })
+
+pub scaled-zero : (p : Polynomial) → scaled 0 p ≡ zero_polynomial
+unfolding scaled
+scaled-zero p = alike_none (shift one 0 p.terms) (λ f. value-shift_one f 0 p.terms ∙ omega arith)
+
+pub times_term-zero : (m : Exponents) (p : Polynomial) → times_term m 0 p ≡ zero_polynomial
+unfolding times_term
+times_term-zero m p = alike_none (shift m 0 p.terms) (λ f. value-shift f m 0 p.terms ∙ omega arith)
+
+pub times_term-of_zero : (m : Exponents) (c : ℕ) → times_term m c zero_polynomial ≡ zero_polynomial
+unfolding times_term zero_polynomial normal
+times_term-of_zero m c = refl
+
+pub zero-multiplied : (p : Polynomial) → multiplied zero_polynomial p ≡ zero_polynomial
+unfolding multiplied zero_polynomial normal
+zero-multiplied p = refl
+
+pub multiplied-zero : (p : Polynomial) → multiplied p zero_polynomial ≡ zero_polynomial
+multiplied-zero p = multiplied_comm p zero_polynomial ∙ zero-multiplied p
+
+pub term_of-zero : (m : Exponents) → term_of m 0 ≡ zero_polynomial
+unfolding term_of
+term_of-zero m = alike_none ((m, 0) ∷ []) (λ f. omega arith)

@@ -1,5 +1,5 @@
 -- Monomials, each as its list of seventeen exponents: of T(1) to T(16) at places 0 to 15, and of the extra variable y at place 16.
-use Rattle.std.specs.Prelude.{ℕ, ◌+◌, ◌-◌, ◌*◌, ◌≡◌, ◌==◌, max, List, length, map, sum, slice_index, if◌then◌else◌, Bool, ◌||◌, bit_and, ◌^◌, not}
+use Rattle.std.specs.Prelude.{ℕ, ◌+◌, ◌-◌, ◌*◌, ◌≡◌, ◌==◌, max, List, length, map, sum, slice_index, if◌then◌else◌, Bool, ◌||◌, ◌/◌, ◌%◌, ◌^◌}
 use Rattle.std.specs.List.{range_with_len, list_all}
 use Rattle.std.proofs.lemmas.List.FromFn.{length-map-range_with_len}
 use Rattle.std.specs.Coded.{Coded, coded_list, coded_ℕ}
@@ -63,4 +63,4 @@ pub record Divides (a b : Exponents) : Type 0 where
 
 -- whether each variable of the monomial is in a face, a set of variables whose mask has bit i for place i
 unfoldable pub in_face : ℕ → Exponents → Bool
-in_face mask a = list_all (λ i. exponent a i == 0 || not (bit_and mask (2 ^ i) == 0)) (range_with_len 0 17)
+in_face mask a = list_all (λ i. exponent a i == 0 || (mask / 2 ^ i) % 2 == 1) (range_with_len 0 17)
