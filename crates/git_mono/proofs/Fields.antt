@@ -1,7 +1,7 @@
 -- What the fields of a monomial say of its exponents.
-use Rattle.std.proofs.Common.{zero, suc, ℕ, ◌+◌, ◌-◌, ◌<◌, ◌≤◌, ◌≡◌, List, [], ◌∷◌, length, get_or, max, sym, ap, ◌∙◌, arith, refl, inl, inr, eq-eqb, get_or-set_same, get_or-set_other, replicate}
+use Rattle.std.proofs.Common.{zero, suc, ℕ, ◌+◌, ◌-◌, ◌<◌, ◌≤◌, ◌≡◌, List, [], ◌∷◌, length, get_or, max, sym, ap, ◌∙◌, arith, refl, inl, inr, eq-eqb, get_or-set_same, get_or-set_other, replicate, below_more}
 use Rattle.std.specs.Prelude.{◌==◌, if◌then◌else◌}
-use Rattle.std.proofs.Math.ListN.{set}
+use Rattle.std.proofs.Math.ListN.{set, length-set}
 use Rattle.std.proofs.lemmas.Bool.{cases_eq, ne_eqb}
 use Rattle.std.proofs.lemmas.List.{get_or-replicate}
 use Rattle.std.specs.List.{sum}
@@ -29,6 +29,15 @@ pub get_or-le-sum : (xs : List ℕ) (i : ℕ) → get_or xs i 0 ≤ sum xs
 get_or-le-sum [] i = omega arith
 get_or-le-sum (x ∷ xs) zero = omega (arith, sum_by-cons (λ n. n) x xs)
 get_or-le-sum (x ∷ xs) (suc i) = omega (arith, sum_by-cons (λ n. n) x xs, get_or-le-sum xs i)
+
+-- one place more of a list that is filled from a function of the place
+pub filled_more : (f : ℕ → ℕ) (xs : List ℕ) (i v : ℕ) → length xs ≡ 17 → i < 17 → ((k : ℕ) → k < i → get_or xs k 0 ≡ f k) → v ≡ f i → (length (set xs i v) ≡ 17) × ((k : ℕ) → k < i + 1 → get_or (set xs i v) k 0 ≡ f k)
+filled_more f xs i v long within before here = (
+  length-set xs i v ∙ long,
+  below_more _ _
+      (λ k h. get_or-set_other xs i k v 0 (omega arith) ∙ before k h)
+      (get_or-set_same xs i v 0 (omega arith) ∙ here),
+)
 
 -- two monomials and the fields that hold them
 pub record Held (xs ys : List ℕ) (a b : Exponents) : Type 0 where

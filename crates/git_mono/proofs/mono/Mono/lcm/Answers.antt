@@ -1,22 +1,15 @@
-use Rattle.std.proofs.Common.{rules, refl, ◌∙◌, arith, ◌≡◌, ◌<◌, ◌≢◌, max, length, get_or, get_or-set_other, get_or-set_same, below_more}
+use Rattle.std.proofs.Common.{rules, refl, arith, ◌≡◌, ◌<◌, max, get_or}
 use Rattle.std.specs.List.{sum}
-use Rattle.std.proofs.Math.ListN.{length-set}
 use Rattle.git_algebra.specs.Exponents.{lcm}
 use Rattle.git_mono.specs.Places.{exponents_of}
-use Rattle.git_mono.proofs.Fields.{Held, degree_is, lcm_is, sum-lcm}
+use Rattle.git_mono.proofs.Fields.{Held, filled_more, degree_is, lcm_is, sum-lcm}
 use Rattle.git_mono.proofs.mono.Mono.lcm.Goals as goal
 
 pub loop-i-preserved : goal.loop-i-preserved
 loop-i-preserved c =
     let larger : c.max.result ≡ max (get_or c.self.inside.exponents c.loop-i.i 0) (get_or c.o.inside.exponents c.loop-i.i 0) = search rules in
-    let long : length c.loop-i.exponents ≡ 17 = c.loop-i.invariant.long in
-    let lt : c.loop-i.i < length c.loop-i.exponents = omega arith in
-    record {
-      long = length-set _ _ _ ∙ long;
-      each = below_more _ _
-          (λ k h. let ne : k ≢ c.loop-i.i = omega arith in rw get_or-set_other (c.loop-i.invariant.each k h))
-          (rw get_or-set_same larger);
-    }
+    let more = filled_more (λ k. max (get_or c.self.inside.exponents k 0) (get_or c.o.inside.exponents k 0)) c.loop-i.exponents c.loop-i.i _ c.loop-i.invariant.long (omega arith) c.loop-i.invariant.each larger in
+    record { long = more.0; each = more.1 }
 
 pub sum-degree-requires-clause-fits : goal.sum-degree-requires-clause-fits
 sum-degree-requires-clause-fits c =

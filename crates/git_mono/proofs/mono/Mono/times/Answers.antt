@@ -1,9 +1,8 @@
-use Rattle.std.proofs.Common.{rules, refl, ◌∙◌, arith, ◌≡◌, ◌<◌, ◌≢◌, length, get_or-set_other, get_or-set_same, below_more}
-use Rattle.std.proofs.Math.ListN.{length-set}
+use Rattle.std.proofs.Common.{rules, refl, arith, ◌≡◌, ◌+◌, get_or}
 use Rattle.git_algebra.specs.Exponents.{times}
 use Rattle.git_algebra.proofs.Monomials.{degree-times}
 use Rattle.git_mono.specs.Places.{exponents_of}
-use Rattle.git_mono.proofs.Fields.{Held, degree_is, times_is, get_or-le-sum}
+use Rattle.git_mono.proofs.Fields.{Held, filled_more, degree_is, times_is, get_or-le-sum}
 use Rattle.git_mono.proofs.mono.Mono.times.Goals as goal
 
 pub returns-then-degree-gt-MONO_DEGREE-clause-none :
@@ -21,14 +20,8 @@ overflow_add-exponents c =
 
 pub loop-i-preserved : goal.loop-i-preserved
 loop-i-preserved c =
-    let long : length c.loop-i.exponents ≡ 17 = c.loop-i.invariant.long in
-    let lt : c.loop-i.i < length c.loop-i.exponents = omega arith in
-    record {
-      long = length-set _ _ _ ∙ long;
-      each = below_more _ _
-          (λ k h. let ne : k ≢ c.loop-i.i = omega arith in rw get_or-set_other (c.loop-i.invariant.each k h))
-          (rw get_or-set_same refl);
-    }
+    let more = filled_more (λ k. get_or c.self.inside.exponents k 0 + get_or c.o.inside.exponents k 0) c.loop-i.exponents c.loop-i.i _ c.loop-i.invariant.long (omega arith) c.loop-i.invariant.each refl in
+    record { long = more.0; each = more.1 }
 
 pub invariant_of-result : goal.invariant_of-result
 invariant_of-result c =
