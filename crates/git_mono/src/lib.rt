@@ -3,8 +3,8 @@
 //! A [`Mono`] is seen by contracts as its list of seventeen exponents. No call takes memory.
 #![tactic(auto)]
 
-pub mod mono;
-pub mod order;
+mod mono;
+mod order;
 
 pub use mono::{MONO_DEGREE, Mono};
 pub use order::{DegRevLex, MonomialOrder};
