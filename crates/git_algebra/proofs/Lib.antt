@@ -1,0 +1,10 @@
+pub mod Monomials
+pub mod Ranks
+pub mod Values
+pub mod Congruence
+pub mod Leads
+pub mod Normal
+pub mod Ring
+pub mod Coefficients
+pub mod Restriction
+pub mod Products

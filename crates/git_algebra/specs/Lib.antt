@@ -1,0 +1,6 @@
+pub mod Exponents
+pub mod Order
+pub mod Sums
+pub mod Polynomials
+pub mod Operations
+pub mod Laws

@@ -1,0 +1,6 @@
+-- Numbers modulo 32003, each as the rest from 0 to 32002.
+use Rattle.std.specs.Prelude.{ℕ, ℤ, pos, ◌-ℤ◌, nat_le, if◌then◌else◌}
+
+-- the representative from -16001 to 16001
+abbrev pub signed_of : ℕ → ℤ
+signed_of n = if nat_le n 16001 then pos n else (pos n -ℤ pos 32003)

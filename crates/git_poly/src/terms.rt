@@ -1,0 +1,134 @@
+//! Lists of terms in descending order: the work behind the operations of polynomials.
+
+ghost use Rattle.std.specs.Prelude.{◌≡◌, ◌≢◌, ◌+◌, ◌<◌, ◌≤◌, ◌++◌, IfOk, filter};
+ghost use Rattle.git_algebra.specs.Exponents.{one, degree, in_face};
+ghost use Rattle.git_algebra.specs.Sums.{shift, product};
+ghost use Rattle.git_algebra.specs.Polynomials.{Proper};
+ghost use Rattle.git_algebra.specs.Operations.{greatest_degree};
+ghost use Rattle.git_poly.specs.Terms.{sum_of, IsForm};
+
+use crate::term::Term;
+use git_base::NoMemory;
+use git_field::{Fp, MODULUS};
+use git_mono::{DegRevLex, MONO_DEGREE, Mono, MonomialOrder};
+use std::alloc::Global;
+use std::cmp::Ordering;
+
+/// The sum of two lists.
+pub fn merged(alloc: Global, a: &[Term], b: &[Term]) -> Result<Vec<Term>, NoMemory>
+    requires left { Proper (sum_of a.now) }
+    requires right { Proper (sum_of b.now) }
+    ensures { IfOk result (λ v. IsForm (sum_of v.items) (sum_of a.now ++ sum_of b.now)) }
+{
+    let mut out = Vec::new(alloc);
+    let mut i = 0;
+    let mut j = 0;
+    'merging: while i < a.len() && j < b.len() {
+        let x = a[i];
+        let y = b[j];
+        match DegRevLex.compare(&x.mono, &y.mono) {
+            Ordering::Greater => {
+                out.push(x)?;
+                i += 1;
+            }
+            Ordering::Less => {
+                out.push(y)?;
+                j += 1;
+            }
+            Ordering::Equal => {
+                let number = x.number.add(y.number);
+                if number.value() != 0 {
+                    out.push(Term {
+                        mono: x.mono,
+                        number,
+                    })?;
+                }
+                i += 1;
+                j += 1;
+            }
+        }
+    }
+    out.extend_from_slice(&a[i..])?;
+    out.extend_from_slice(&b[j..])?;
+    Ok(out)
+}
+
+/// A list times a number.
+pub fn scaled(alloc: Global, c: Fp, a: &[Term]) -> Result<Vec<Term>, NoMemory>
+    requires some { c ≢ 0 }
+    requires below { c < MODULUS }
+    requires proper { Proper (sum_of a.now) }
+    ensures { IfOk result (λ v. IsForm (sum_of v.items) (shift one c (sum_of a.now))) }
+{
+    let mut out = Vec::new(alloc);
+    for t in a {
+        out.push(Term {
+            mono: t.mono,
+            number: c.mul(t.number),
+        })?;
+    }
+    Ok(out)
+}
+
+/// A list times a term.
+pub fn shifted(alloc: Global, m: &Mono, c: Fp, a: &[Term]) -> Result<Vec<Term>, NoMemory>
+    requires some { c ≢ 0 }
+    requires below { c < MODULUS }
+    requires proper { Proper (sum_of a.now) }
+    requires degrees { degree m.now + greatest_degree (sum_of a.now) ≤ MONO_DEGREE }
+    ensures { IfOk result (λ v. IsForm (sum_of v.items) (shift m.now c (sum_of a.now))) }
+{
+    let mut out = Vec::new(alloc);
+    for t in a {
+        out.push(Term {
+            mono: m.times(&t.mono).unwrap(),
+            number: c.mul(t.number),
+        })?;
+    }
+    Ok(out)
+}
+
+/// The product of two lists: that of each half of the first, and the sum of both.
+pub fn product_of(alloc: Global, a: &[Term], b: &[Term]) -> Result<Vec<Term>, NoMemory>
+    requires left { Proper (sum_of a.now) }
+    requires right { Proper (sum_of b.now) }
+    requires degrees { greatest_degree (sum_of a.now) + greatest_degree (sum_of b.now) ≤ MONO_DEGREE }
+    ensures { IfOk result (λ v. IsForm (sum_of v.items) (product (sum_of a.now) (sum_of b.now))) }
+{
+    if a.is_empty() {
+        return Ok(Vec::new(alloc));
+    }
+    if a.len() == 1 {
+        return shifted(alloc, &a[0].mono, a[0].number, b);
+    }
+    let half = a.len() / 2;
+    let front = product_of(alloc, &a[..half], b)?;
+    let back = product_of(alloc, &a[half..], b)?;
+    merged(alloc, &front, &back)
+}
+
+/// The terms of a list whose variables are all in a face.
+pub fn kept(alloc: Global, mask: u16, a: &[Term]) -> Result<Vec<Term>, NoMemory>
+    requires { Proper (sum_of a.now) }
+    ensures { IfOk result (λ v. IsForm (sum_of v.items) (filter (λ t. in_face mask t.0) (sum_of a.now))) }
+{
+    let mut out = Vec::new(alloc);
+    for t in a {
+        if is_in_face(&t.mono, mask) {
+            out.push(*t)?;
+        }
+    }
+    Ok(out)
+}
+
+/// Whether each variable of a monomial is in a face. No mask holds the extra variable.
+fn is_in_face(m: &Mono, mask: u16) -> bool
+    ensures { result ≡ in_face mask m.now }
+{
+    for i in 0..17 {
+        if m.exponent(i) != 0 && (u32::from(mask) >> i) % 2 == 0 {
+            return false;
+        }
+    }
+    true
+}

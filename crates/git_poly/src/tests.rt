@@ -1,0 +1,171 @@
+//! Polynomials worked by hand, in T(1), T(2), T(3) and y.
+
+use crate::{Poly, PolyFault};
+use git_base::NoMemory;
+use git_field::Fp;
+use git_mono::{MONO_DEGREE, Mono};
+use std::alloc::Global;
+use std::test::Fail;
+
+/// The monomial with these exponents of T(1), T(2), T(3) and y.
+fn monomial(exponents: [u32; 4]) -> Mono {
+    let mut found = Mono::one();
+    let powers = [
+        Mono::power(0, exponents[0]),
+        Mono::power(1, exponents[1]),
+        Mono::power(2, exponents[2]),
+        Mono::power(16, exponents[3]),
+    ];
+    for power in powers {
+        found = found.times(&power.unwrap_or(Mono::one())).unwrap_or(found);
+    }
+    found
+}
+
+/// The sum of some terms.
+fn polynomial(alloc: Global, terms: &[([u32; 4], i128)]) -> Result<Poly, NoMemory> {
+    let mut sum = Poly::zero(alloc);
+    for &(exponents, number) in terms {
+        let term = Poly::term(alloc, monomial(exponents), Fp::reduce(number))?;
+        sum = sum.add(alloc, &term)?;
+    }
+    Ok(sum)
+}
+
+/// Whether a polynomial is the sum of some terms.
+fn is_sum(alloc: Global, p: &Poly, terms: &[([u32; 4], i128)]) -> Result<bool, NoMemory> {
+    let expected = polynomial(alloc, terms)?;
+    let difference = p.sub(alloc, &expected)?;
+    Ok(difference.term_count() == 0)
+}
+
+/// Takes a value that threads may share and move.
+fn shared<T: Send + Sync>(_value: &T) {}
+
+#[test]
+fn sums_and_differences_cancel(rt: HostRuntime) -> Result<(), Fail> {
+    let alloc = rt.alloc();
+    let p = polynomial(
+        alloc,
+        &[([0, 1, 0, 0], 3), ([2, 0, 0, 0], 1), ([0, 0, 0, 0], -2)],
+    )?;
+    let q = polynomial(
+        alloc,
+        &[([2, 0, 0, 0], 32002), ([0, 0, 1, 0], 5), ([0, 0, 0, 0], -2)],
+    )?;
+    let sum = p.add(alloc, &q)?;
+    let difference = p.sub(alloc, &q)?;
+    let multiple = p.scale(alloc, Fp::reduce(-2))?;
+    shared(&p);
+    assert_eq!(rt; (p.term_count(), sum.term_count()), (3, 3));
+    assert!(rt;
+        is_sum(
+            alloc,
+            &sum,
+            &[([0, 1, 0, 0], 3), ([0, 0, 1, 0], 5), ([0, 0, 0, 0], -4)]
+        )?
+    );
+    assert!(rt;
+        is_sum(
+            alloc,
+            &difference,
+            &[([2, 0, 0, 0], 2), ([0, 1, 0, 0], 3), ([0, 0, 1, 0], -5)]
+        )?
+    );
+    assert!(rt;
+        is_sum(
+            alloc,
+            &multiple,
+            &[([2, 0, 0, 0], -2), ([0, 1, 0, 0], -6), ([0, 0, 0, 0], 4)]
+        )?
+    );
+    assert_eq!(rt; p.scale(alloc, Fp::reduce(0))?.term_count(), 0);
+    Ok(())
+}
+
+#[test]
+fn products_merge_like_terms(rt: HostRuntime) -> Result<(), Fail> {
+    let alloc = rt.alloc();
+    let zero = Poly::zero(alloc);
+    let sum = polynomial(alloc, &[([1, 0, 0, 0], 1), ([0, 1, 0, 0], 1)])?;
+    let difference = polynomial(alloc, &[([1, 0, 0, 0], 1), ([0, 1, 0, 0], -1)])?;
+    let product = sum.times(alloc, &difference).unwrap_or(zero);
+    assert!(rt; is_sum(alloc, &product, &[([2, 0, 0, 0], 1), ([0, 2, 0, 0], -1)])?);
+    let square = sum.times(alloc, &sum).unwrap_or(product);
+    assert!(rt;
+        is_sum(
+            alloc,
+            &square,
+            &[([2, 0, 0, 0], 1), ([1, 1, 0, 0], 2), ([0, 2, 0, 0], 1)]
+        )?
+    );
+    let shifted = sum
+        .times_term(alloc, &monomial([0, 0, 1, 1]), Fp::reduce(7))
+        .unwrap_or(square);
+    assert!(rt; is_sum(alloc, &shifted, &[([1, 0, 1, 1], 7), ([0, 1, 1, 1], 7)])?);
+    Ok(())
+}
+
+#[test]
+fn terms_are_read_in_descending_order(rt: HostRuntime) -> Result<(), Fail> {
+    let alloc = rt.alloc();
+    let p = polynomial(
+        alloc,
+        &[
+            ([0, 0, 0, 1], 6),
+            ([1, 1, 0, 0], 4),
+            ([0, 0, 0, 0], 7),
+            ([0, 0, 1, 0], 5),
+        ],
+    )?;
+    let mut next = 4;
+    for i in 0..p.term_count() {
+        let (mono, number) = p.term_at(i);
+        assert_eq!(rt; number.value(), next);
+        assert_eq!(rt; p.coefficient(&mono).value(), next);
+        next = next.wrapping_add(1);
+    }
+    assert_eq!(rt; next, 8);
+    assert_eq!(rt; p.lead(), Some((monomial([1, 1, 0, 0]), Fp::reduce(4))));
+    assert_eq!(rt; p.coefficient(&monomial([1, 0, 0, 0])).value(), 0);
+    assert!(rt;
+        is_sum(
+            alloc,
+            &p.restrict(alloc, 0b011)?,
+            &[([1, 1, 0, 0], 4), ([0, 0, 0, 0], 7)]
+        )?
+    );
+    assert!(rt;
+        is_sum(
+            alloc,
+            &p.copy(alloc)?.restrict(alloc, 0b100)?,
+            &[([0, 0, 1, 0], 5), ([0, 0, 0, 0], 7)]
+        )?
+    );
+    Ok(())
+}
+
+#[test]
+fn products_stop_at_the_degree_limit(rt: HostRuntime) -> Result<(), Fail> {
+    let alloc = rt.alloc();
+    let greatest = polynomial(alloc, &[([MONO_DEGREE, 0, 0, 0], 1)])?;
+    let variable = polynomial(alloc, &[([1, 0, 0, 0], 1)])?;
+    let one = polynomial(alloc, &[([0, 0, 0, 0], 1)])?;
+    let cases = [
+        (greatest.times(alloc, &variable), Some(PolyFault::Degree)),
+        (
+            greatest.times_term(alloc, &monomial([1, 0, 0, 0]), Fp::reduce(1)),
+            Some(PolyFault::Degree),
+        ),
+        (greatest.times(alloc, &one), None),
+        (greatest.times(alloc, &Poly::zero(alloc)), None),
+        (
+            greatest.times_term(alloc, &monomial([1, 0, 0, 0]), Fp::reduce(0)),
+            None,
+        ),
+    ];
+    for (product, fault) in cases {
+        assert_eq!(rt; product.err(), fault);
+    }
+    Ok(())
+}
