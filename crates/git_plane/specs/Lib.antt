@@ -1,0 +1,2 @@
+pub mod PlaneListings
+pub mod Laws
