@@ -1,2 +1,4 @@
 pub mod Turns
 pub mod PairCones
+pub mod Directions
+pub mod Chambers

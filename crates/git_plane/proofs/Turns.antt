@@ -4,7 +4,7 @@ use Rattle.std.proofs.Math.IntN.{◌*ℤ◌, ◌+ℤ◌, ◌-ℤ◌, neg_ℤ, ne
 use Rattle.std.proofs.lemmas.Int.{ints}
 use Rattle.std.specs.Prelude.{◌<ℤ◌, ◌≤ℤ◌}
 use borrow.Author.Differences.{up}
-use Rattle.git_defs.proofs.Integers.{diff, diff_add, diff_mul, diff_neg, diff_same, diff_sub, mul_nonneg, mul_pos, nonneg_of_mul, pos_of_mul}
+use Rattle.git_defs.proofs.Integers.{diff, diff_add, diff_mul, diff_neg, diff_same, diff_sub, mul_comm, mul_nonneg, mul_pos, nonneg_of_mul, pos_of_mul}
 use Rattle.git_defs.proofs.Linear.{length-scale}
 use Rattle.git_defs.specs.Cones.{OnRay}
 use Rattle.git_defs.specs.Vectors.{IsPrimitive, Vector, dot, plus, scale, zero_vector}
@@ -148,6 +148,15 @@ turn_into n u v w e a b c first rest =
     let right = mul_nonneg (dot n w) (turn u v) (omega (arith, ints, r)) first in
     let sum = across n u v w e a.entries b.entries c.entries in
     pos_of_mul (dot n v) (turn u w) q (omega (arith, ints, left, right, sum))
+
+-- what lies strictly between two vectors ahead is ahead
+pub ahead_between : (n u v w : Vector) → length n ≡ 2 → IsAhead n u → IsAhead n w → length v ≡ 2 → pos 0 <ℤ turn u w → pos 0 <ℤ turn u v → pos 0 <ℤ turn v w → IsAhead n v
+ahead_between n u v w e a c f opens first rest =
+    let left = mul_pos (dot n u) (turn v w) a.above rest in
+    let right = mul_pos (dot n w) (turn u v) c.above first in
+    let sum = across n u v w e a.entries f c.entries in
+    let turned = mul_comm (dot n v) (turn u w) in
+    record { entries = f; above = pos_of_mul (turn u w) (dot n v) opens (omega (arith, ints, left, right, sum, turned)) }
 
 -- ---- no turn: one ray
 pos_up : (z : ℤ) → pos 0 <ℤ z → pos (up z) ≡ z
