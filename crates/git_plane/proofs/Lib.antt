@@ -2,3 +2,5 @@ pub mod Turns
 pub mod PairCones
 pub mod Directions
 pub mod Chambers
+pub mod Search
+pub mod Listed
