@@ -4,3 +4,5 @@ pub mod Directions
 pub mod Chambers
 pub mod Search
 pub mod Listed
+pub mod Sorting
+pub mod Masks
