@@ -2,21 +2,20 @@
 use Rattle.std.proofs.Common.{◌≡◌, ◌<◌, ◌∙◌, ◌⊎◌, List, ap, arith, inl, inr, length, subst, sym, ℕ}
 use Rattle.std.proofs.Math.IntN.{◌*ℤ◌, *ℤ-zero, negsuc, pos, ℤ}
 use Rattle.std.proofs.lemmas.Int.{ints}
-use Rattle.std.specs.Prelude.{◌<ℤ◌, ◌≤ℤ◌, AllPairs, Contains}
+use Rattle.std.specs.Prelude.{◌<ℤ◌, ◌≤ℤ◌, AllPairs}
 use Rattle.git_defs.proofs.Closed.{IsClosed, closed_cone, positive_or_zero}
 use Rattle.git_defs.proofs.Integers.{mul_pos, pos_of_mul}
 use Rattle.git_defs.proofs.Linear.{dot-plus, dot-scale, dot-zero, length-plus, length-scale, length-zero}
-use Rattle.git_defs.proofs.Members.{Member, OfLength, contains_member, member_contains}
-use Rattle.git_defs.proofs.Sums.{plus-zero, scale-zero, scale_none, zero-plus}
+use Rattle.git_defs.proofs.Members.{Member, contains_member, member_contains}
+use Rattle.git_defs.proofs.Sums.{plus-zero, scale-zero, scale_none}
 use Rattle.git_defs.specs.Chambers.{IsGeneric}
-use Rattle.git_defs.specs.Cones.{InCone, OnRay}
 use Rattle.git_defs.specs.Vectors.{IsPrimitive, Vector, dot, plus, scale, zero_vector}
 use Rattle.git_geometry.proofs.Primitive.{vanish}
 use Rattle.git_ints.proofs.Turns.{turn-swap}
 use Rattle.git_ints.specs.Content.{IsPrimitivePart}
 use Rattle.git_ints.specs.Plane.{turn}
 use Rattle.git_plane.proofs.PairCones.{Inside, Opens}
-use Rattle.git_plane.proofs.Turns.{IsAhead, IsAlong, Turning, left, level, level_ray, level_same, right, turning, turn-scale, scale-turn}
+use Rattle.git_plane.proofs.Turns.{IsAhead, Turning, left, level, level_ray, level_same, right, turning, turn-scale, scale-turn}
 use Rattle.git_plane.specs.PlaneListings.{AreDirections, AreNeighbours}
 
 -- q is a positive multiple of d
@@ -134,10 +133,13 @@ none_or_ahead_closed n = record {
     ]
 
   quotients : (c : ℤ) (x : Vector) → pos 0 <ℤ c → IsNoneOrAhead n (scale c x) → IsNoneOrAhead n x
-  quotients (pos m) x s h = record { entries = sym (length-scale (pos m) x) ∙ h.entries; side = elim h.side [
-    | inl a ↦ inl (vanish 2 m x (omega (arith, ints)) a)
-    | inr p ↦ inr (pos_of_mul (pos m) (dot n x) s (subst (λ (z : ℤ). pos 0 <ℤ z) (dot-scale n (pos m) x) p))
-  ] }
+  quotients (pos m) x s h = record {
+    entries = sym (length-scale (pos m) x) ∙ h.entries;
+    side = elim h.side [
+      | inl a ↦ inl (vanish 2 m x (omega (arith, ints)) a)
+      | inr p ↦ inr (pos_of_mul (pos m) (dot n x) s (subst (λ (z : ℤ). pos 0 <ℤ z) (dot-scale n (pos m) x) p))
+    ];
+  }
   quotients (negsuc m) x s h = absurd (omega (arith, ints))
 
 -- a generic weight is ahead

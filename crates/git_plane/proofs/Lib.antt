@@ -6,3 +6,6 @@ pub mod Search
 pub mod Listed
 pub mod Sorting
 pub mod Masks
+pub mod PairMasks
+pub mod MaskLists
+pub mod Theorem

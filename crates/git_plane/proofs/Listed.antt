@@ -1,6 +1,6 @@
 -- The listed chambers are those of their weights, with what is printed of them, and all chambers are listed.
-use Rattle.std.proofs.Common.{◌≡◌, ◌+◌, ◌<◌, ◌∙◌, ◌⊎◌, ◌∷◌, [], List, ap, arith, get_or, inl, inr, length, map, refl, subst, sym, suc, zero, ℕ}
-use Rattle.std.proofs.Math.IntN.{pos, ℤ}
+use Rattle.std.proofs.Common.{◌≡◌, ◌<◌, ◌∙◌, ◌∷◌, [], List, ap, arith, get_or, inl, inr, length, map, refl, subst, sym, suc, zero, ℕ}
+use Rattle.std.proofs.Math.IntN.{pos}
 use Rattle.std.proofs.lemmas.Int.{ints}
 use Rattle.std.specs.Prelude.{◌<ℤ◌, Contains, Some, slice_get}
 use Rattle.git_defs.proofs.Closed.{cone_closed, cone_has}
@@ -10,18 +10,18 @@ use Rattle.git_defs.proofs.Sums.{plus-zero, scale-one}
 use Rattle.git_defs.specs.Chambers.{InChamberOf, IsGeneric}
 use Rattle.git_defs.specs.Cones.{AreFacets, AreRays, Dual, InCone, OnRay, SameSet}
 use Rattle.git_defs.specs.Faces.{cone_at}
-use Rattle.git_defs.specs.Listings.{Chamber, Facet, IsListed, IsNeighbour, IsSide, Side, boundary, chamber_cone, inner}
-use Rattle.git_defs.specs.Vectors.{Vector, dot, plus, scale, vector_sum, zero_vector}
+use Rattle.git_defs.specs.Listings.{Chamber, Facet, IsListed, IsSide, Side, boundary, chamber_cone, inner}
+use Rattle.git_defs.specs.Vectors.{Vector, dot, plus, scale, vector_sum}
 use Rattle.git_geometry.proofs.Identities.{plus-comm}
 use Rattle.git_geometry.proofs.Rays.{dual_along, rays_along, same_back}
-use Rattle.git_ints.proofs.Turns.{turn-self, turn-swap}
+use Rattle.git_ints.proofs.Turns.{turn-self}
 use Rattle.git_ints.specs.Plane.{HasWedge, turn}
 use Rattle.git_plane.proofs.Chambers.{ArePairCones, chamber_of_between}
 use Rattle.git_plane.proofs.Directions.{AreAhead, HasDirection, IsMultiple, direction_in, generic_ahead, multiple_turns, neighbours_hold, neighbours_open, turns_of_multiple}
 use Rattle.git_plane.proofs.PairCones.{Opens, each_of_two, inside_of_pair, member_pair, pair_facets, pair_has_high, pair_has_low, pair_member, pair_rays}
 use Rattle.git_plane.proofs.Search.{has_neighbours}
-use Rattle.git_plane.proofs.Turns.{IsAhead, ahead_between, dot-left, dot-right, level_same, plus-turn, turn-plus}
-use Rattle.git_plane.specs.PlaneListings.{AreNeighbours, HasRayToo, IsFacetAt, IsPairChamber, IsPairOf, IsSideAt, quarter_left, quarter_right}
+use Rattle.git_plane.proofs.Turns.{IsAhead, ahead_between, dot-left, dot-right, plus-turn, turn-plus}
+use Rattle.git_plane.specs.PlaneListings.{AreNeighbours, IsFacetAt, IsPairChamber, IsPairOf, IsSideAt, quarter_left, quarter_right}
 
 -- ---- places in lists
 get_at : {X : Type 0} (xs : List X) (x : X) (k : ℕ) → k < length xs → get_or xs k x ≡ x → slice_get xs k ≡ Some x
@@ -168,12 +168,16 @@ module _ (n : Vector) (qs ds : List Vector) (a : AreAhead n qs ds) (masks : List
       shared = ray_of_held j h.other ray h.listed wall.direction
           (subst (chamber_cone qs masks h.other) (sym (wall.alone h.meets.ray (contains_member h.meets.ray c.rays h.meets.is_ray) h.meets.on_wall)) h.meets.held);
     })
-    side_of i c ray normal wall (inner k) s = (s.0, s.1, record {
-      other = s.2.other;
-      listed = s.2.listed;
-      distinct = s.2.distinct;
-      meets = record { ray = ray; is_ray = wall.is_ray; on_wall = wall.level; held = held_of_ray s.0 s.2.other ray s.2.listed s.2.shared };
-    })
+    side_of i c ray normal wall (inner k) s = (
+      s.0,
+      s.1,
+      record {
+        other = s.2.other;
+        listed = s.2.listed;
+        distinct = s.2.distinct;
+        meets = record { ray = ray; is_ray = wall.is_ray; on_wall = wall.level; held = held_of_ray s.0 s.2.other ray s.2.listed s.2.shared };
+      },
+    )
 
     module _ (low high : Vector) (near : AreNeighbours ds low high) (i : ℕ) (c : Chamber) (pair : IsPairChamber chambers i low high c) where
       its_opens : Opens low high
@@ -242,6 +246,9 @@ module _ (n : Vector) (qs ds : List Vector) (a : AreAhead n qs ds) (masks : List
         let c = h.0 in
         let p = listed.each h.1.0 c (get_at chambers c h.1.0 h.1.1 h.1.2) in
         let C = InChamberOf (length masks) (cone_at 2 qs masks) w in let P = InCone 2 (b.low ∷ b.high ∷ []) in
-        let same = chamber_of_between n qs ds a b.low b.high b.near w (generic_ahead n qs ds w a generic).entries b.after b.before (length masks) (cone_at 2 qs masks) cones in
-        (c, h.1, rays_along 2 P C c.rays (same_back C P same)
-        (pair_rays b.low b.high c.rays (neighbours_open n qs ds b.low b.high a b.near) (a.primitive b.low (contains_member b.low ds b.near.low_in)) (a.primitive b.high (contains_member b.high ds b.near.high_in)) h.2 p.3.rays_ordered))
+        let same = chamber_of_between n qs ds a b.low b.high b.near w (generic_ahead n qs ds w a generic).entries b.after b.before (length masks) (cone_at 2 qs masks) cones in (
+          c,
+          h.1,
+          rays_along 2 P C c.rays (same_back C P same)
+              (pair_rays b.low b.high c.rays (neighbours_open n qs ds b.low b.high a b.near) (a.primitive b.low (contains_member b.low ds b.near.low_in)) (a.primitive b.high (contains_member b.high ds b.near.high_in)) h.2 p.3.rays_ordered),
+        )

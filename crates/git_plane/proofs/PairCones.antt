@@ -1,5 +1,5 @@
 -- The cone of two vectors of the plane: what it holds, its rays and its facets.
-use Rattle.std.proofs.Common.{◌≡◌, ◌⊎◌, ◌∷◌, [], AllPairs, List, arith, inl, inr, length, sym, subst, ap, ◌∙◌}
+use Rattle.std.proofs.Common.{◌≡◌, ◌∷◌, [], AllPairs, List, arith, inl, inr, length, sym, subst, ◌∙◌}
 use Rattle.std.proofs.Math.IntN.{pos, ℤ}
 use Rattle.std.proofs.lemmas.Int.{ints}
 use Rattle.std.specs.Prelude.{◌<ℤ◌, ◌≤ℤ◌}

@@ -1,5 +1,5 @@
 -- Each generic weight lies strictly between two neighbours.
-use Rattle.std.proofs.Common.{◌≡◌, ◌<◌, ◌⊎◌, ◌∷◌, [], List, arith, inl, inr, refl, subst, sym, suc, zero, ℕ}
+use Rattle.std.proofs.Common.{◌⊎◌, ◌∷◌, [], List, arith, inl, inr, refl, subst, sym, suc, zero}
 use Rattle.std.proofs.Math.IntN.{negsuc, pos, ℤ}
 use Rattle.std.proofs.lemmas.Int.{ints}
 use Rattle.std.specs.Prelude.{◌<ℤ◌, ◌≤ℤ◌}

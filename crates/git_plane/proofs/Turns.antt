@@ -1,5 +1,5 @@
 -- Turns between vectors on one side of a line through 0, and quarter turns.
-use Rattle.std.proofs.Common.{◌≡◌, ◌∙◌, ◌<◌, ◌∷◌, ◌⊎◌, [], List, ap, arith, inl, inr, length, refl, subst, sym, suc, zero, ℕ}
+use Rattle.std.proofs.Common.{◌≡◌, ◌∙◌, ◌<◌, ◌∷◌, [], ap, arith, length, refl, sym, suc, zero}
 use Rattle.std.proofs.Math.IntN.{◌*ℤ◌, ◌+ℤ◌, ◌-ℤ◌, neg_ℤ, negsuc, pos, ℤ}
 use Rattle.std.proofs.lemmas.Int.{ints}
 use Rattle.std.specs.Prelude.{◌<ℤ◌, ◌≤ℤ◌}
@@ -7,7 +7,7 @@ use borrow.Author.Differences.{up}
 use Rattle.git_defs.proofs.Integers.{diff, diff_add, diff_mul, diff_neg, diff_same, diff_sub, mul_comm, mul_nonneg, mul_pos, nonneg_of_mul, pos_of_mul}
 use Rattle.git_defs.proofs.Linear.{length-scale}
 use Rattle.git_defs.specs.Cones.{OnRay}
-use Rattle.git_defs.specs.Vectors.{IsPrimitive, Vector, dot, plus, scale, zero_vector}
+use Rattle.git_defs.specs.Vectors.{IsPrimitive, Vector, dot, plus, scale}
 use Rattle.git_geometry.proofs.Primitive.{primitive_nonzero}
 use Rattle.git_geometry.proofs.Rays.{primitive_of_ray}
 use Rattle.git_ints.proofs.Turns.{in_plane, turn-swap}
