@@ -1,5 +1,5 @@
 -- The directions of columns on one side of a line.
-use Rattle.std.proofs.Common.{◌≡◌, ◌<◌, ◌∙◌, ◌⊎◌, List, ap, arith, inl, inr, length, subst, sym, ℕ}
+use Rattle.std.proofs.Common.{◌≡◌, ◌<◌, ◌∙◌, ◌⊎◌, ◌∷◌, [], List, ap, arith, inl, inr, length, refl, subst, sym, ℕ}
 use Rattle.std.proofs.Math.IntN.{◌*ℤ◌, *ℤ-zero, negsuc, pos, ℤ}
 use Rattle.std.proofs.lemmas.Int.{ints}
 use Rattle.std.specs.Prelude.{◌<ℤ◌, ◌≤ℤ◌, AllPairs}
@@ -10,12 +10,13 @@ use Rattle.git_defs.proofs.Members.{Member, contains_member, member_contains}
 use Rattle.git_defs.proofs.Sums.{plus-zero, scale-zero, scale_none}
 use Rattle.git_defs.specs.Chambers.{IsGeneric}
 use Rattle.git_defs.specs.Vectors.{IsPrimitive, Vector, dot, plus, scale, zero_vector}
-use Rattle.git_geometry.proofs.Primitive.{vanish}
+use Rattle.git_geometry.proofs.Primitive.{primitive_part, vanish}
 use Rattle.git_ints.proofs.Turns.{turn-swap}
 use Rattle.git_ints.specs.Content.{IsPrimitivePart}
 use Rattle.git_ints.specs.Plane.{turn}
 use Rattle.git_plane.proofs.PairCones.{Inside, Opens}
-use Rattle.git_plane.proofs.Turns.{IsAhead, Turning, left, level, level_ray, level_same, right, turning, turn-scale, scale-turn}
+use Rattle.git_plane.proofs.Sorting.{ascends_of_pairs, pairs_of_ascends}
+use Rattle.git_plane.proofs.Turns.{IsAhead, Turning, left, level, level_ray, level_same, right, same_or_not, turning, turn-scale, scale-turn}
 use Rattle.git_plane.specs.PlaneListings.{AreDirections, AreNeighbours}
 
 -- q is a positive multiple of d
@@ -69,6 +70,73 @@ are_ahead n qs ds e columns given = record {
 } where
   along : (d : Vector) → Member d ds → (q : Vector) × Member q qs × IsPrimitivePart q d
   along d m = let h = given.along d (member_contains d ds m) in (h.0, contains_member h.0 qs h.1, h.2)
+
+-- ---- each list of columns ahead has directions
+member_or_not : (n w : Vector) (vs : List Vector) → length n ≡ 2 → IsAhead n w → IsPrimitive w → ((v : Vector) → Member v vs → IsAhead n v) → ((v : Vector) → Member v vs → IsPrimitive v)
+    → Member w vs ⊎ (Member w vs → ⊥)
+member_or_not n w [] e a p aheads primitives = inr (λ m. m)
+member_or_not n w (v ∷ vs) e a p aheads primitives = elim (same_or_not n v w e (aheads v (inl refl)) a (primitives v (inl refl)) p) [
+  | inl same ↦ inl (inl same)
+  | inr apart ↦ elim (member_or_not n w vs e a p (λ x m. aheads x (inr m)) (λ x m. primitives x (inr m))) [
+    | inl m ↦ inl (inr m)
+    | inr none ↦ inr (λ m. elim m [ inl f ↦ apart f | inr k ↦ none k ])
+  ]
+]
+
+-- one column more, on the ray of a direction
+column_known : (n q : Vector) (qs ds : List Vector) → AreAhead n qs ds → IsAhead n q → HasDirection ds q → AreAhead n (q ∷ qs) ds
+column_known n q qs ds a this d = record {
+  entries = a.entries;
+  columns = λ x m. elim m [ inl e ↦ subst (IsAhead n) e this | inr k ↦ a.columns x k ];
+  directions = a.directions;
+  primitive = a.primitive;
+  column = λ v m. (let c = a.column v m in record { column = c.column; member = inr c.member; multiple = c.multiple });
+  direction = λ x m. elim m [ inl e ↦ subst (HasDirection ds) e d | inr k ↦ a.direction x k ];
+  distinct = a.distinct;
+}
+
+-- one column more, and its direction
+column_new : (n q w : Vector) (qs ds : List Vector) → AreAhead n qs ds → IsAhead n q → IsAhead n w → IsPrimitive w → IsMultiple w q → (Member w ds → ⊥) → AreAhead n (q ∷ qs) (w ∷ ds)
+column_new n q w qs ds a this ahead primitive multiple none = record {
+  entries = a.entries;
+  columns = λ x m. elim m [ inl e ↦ subst (IsAhead n) e this | inr k ↦ a.columns x k ];
+  directions = λ v m. elim m [ inl e ↦ subst (IsAhead n) e ahead | inr k ↦ a.directions v k ];
+  primitive = λ v m. elim m [ inl e ↦ subst IsPrimitive e primitive | inr k ↦ a.primitive v k ];
+  column = λ v m. elim m [
+    | inl e ↦ record { column = q; member = inl refl; multiple = subst (λ (v : Vector). IsMultiple v q) e multiple }
+    | inr k ↦ (let c = a.column v k in record { column = c.column; member = inr c.member; multiple = c.multiple })
+  ];
+  direction = λ x m. elim m [
+    | inl e ↦ record { direction = w; member = inl refl; multiple = subst (IsMultiple w) e multiple }
+    | inr k ↦ (let d = a.direction x k in record { direction = d.direction; member = inr d.member; multiple = d.multiple })
+  ];
+  distinct = pairs_of_ascends (λ u v. u ≡ v → ⊥) (w ∷ ds) (λ y m e. none (subst (λ (x : Vector). Member x ds) (sym e) m), ascends_of_pairs (λ u v. u ≡ v → ⊥) ds a.distinct);
+}
+
+column_more : (n q : Vector) (qs ds : List Vector) → AreAhead n qs ds → IsAhead n q → (more : List Vector) × AreAhead n (q ∷ qs) more
+column_more n q qs ds a this =
+    let p = primitive_part 2 q this.entries (λ e. ahead_nonzero n q this (subst (λ (k : ℕ). q ≡ zero_vector k) (sym this.entries) e)) in
+    let w = p.vector in
+    let multiple : IsMultiple w q = record { times = p.times; positive = p.positive; is = p.is } in
+    let ahead = ahead_part n w q p.times p.positive p.is this in
+    elim (member_or_not n w ds a.entries ahead p.primitive a.directions a.primitive) [
+      | inl m ↦ (ds, column_known n q qs ds a this (record { direction = w; member = m; multiple = multiple }))
+      | inr none ↦ (w ∷ ds, column_new n q w qs ds a this ahead p.primitive multiple none)
+    ]
+
+pub has_directions : (n : Vector) (qs : List Vector) → length n ≡ 2 → ((q : Vector) → Member q qs → IsAhead n q) → (ds : List Vector) × AreAhead n qs ds
+has_directions n [] e aheads = ([], record {
+  entries = e;
+  columns = λ q m. absurd m;
+  directions = λ d m. absurd m;
+  primitive = λ d m. absurd m;
+  column = λ d m. absurd m;
+  direction = λ q m. absurd m;
+  distinct = λ i j d lt h. absurd (omega arith);
+})
+has_directions n (q ∷ qs) e aheads =
+    let rest = has_directions n qs e (λ x m. aheads x (inr m)) in
+    column_more n q qs rest.0 rest.1 (aheads q (inl refl))
 
 -- ---- multiples
 -- a closed set holds a multiple where it holds the vector, and the other way round

@@ -9,3 +9,4 @@ pub mod Masks
 pub mod PairMasks
 pub mod MaskLists
 pub mod Theorem
+pub mod Gradings

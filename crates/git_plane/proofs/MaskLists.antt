@@ -12,9 +12,9 @@ use Rattle.git_ints.proofs.Turns.{turn-self, turn-swap}
 use Rattle.git_ints.specs.Plane.{turn}
 use Rattle.git_plane.proofs.Chambers.{ArePairCones, HasNumber}
 use Rattle.git_plane.proofs.Directions.{AreAhead}
-use Rattle.git_plane.proofs.PairMasks.{IsSpanMask, face_pair, high_once, low_once, span_mask, span_once}
-use Rattle.git_plane.proofs.Sorting.{AreComparable, Ascends, IsSorting, pairs_of_ascends, sort}
-use Rattle.git_plane.proofs.Turns.{IsAhead, Turning, left, level, level_same, right, turn_on, turning}
+use Rattle.git_plane.proofs.PairMasks.{IsSpanMask, face_pair, ends_once, span_mask, span_once}
+use Rattle.git_plane.proofs.Sorting.{AreComparable, Ascends, IsSorting, ascends_of_pairs, once, pairs_of_ascends, sort}
+use Rattle.git_plane.proofs.Turns.{IsAhead, Turning, apart_left, left, level, level_same, right, turn_on, turning}
 
 -- ---- lists without repetitions
 abbrev AreDistinct : List ℕ → Type 0
@@ -58,6 +58,12 @@ above_or (suc x) (suc y) apart = elim (above_or x y (λ e. apart (ap suc e))) [ 
 comparable : (xs : List ℕ) → AreDistinct xs → AreComparable Above xs
 comparable [] d = tt
 comparable (x ∷ xs) d = (λ y m. above_or x y (λ e. d.0 (subst (λ (z : ℕ). Member z xs) e m)), comparable xs d.1)
+
+-- the list of the cones is one
+pub cones_once : (k : ℕ) (qs : List Vector) (accepted : ℕ → Type 0) (us vs : List ℕ) → AreCones k qs accepted us → AreCones k qs accepted vs → us ≡ vs
+cones_once k qs accepted us vs p q = once Above (λ x h. omega (arith, h)) above_trans us vs (ascends_of_pairs Above us p.descending) (ascends_of_pairs Above vs q.descending)
+    (λ m h. contains_member m vs ((q.each m).1 ((p.each m).0 (member_contains m us h))))
+    (λ m h. contains_member m us ((p.each m).1 ((q.each m).0 (member_contains m vs h))))
 
 -- ---- directions by turns
 record TurnsTo (n u v : Vector) : Type 0 where
@@ -135,7 +141,7 @@ module _ (n : Vector) (qs ds : List Vector) (a : AreAhead n qs ds) where
 
     apart : (x : Vector) × Member x es × IsSpanMask qs d x mask → ⊥
     apart r =
-        let f = high_once n qs ds a d e d r.0 m (within e (inl refl)) m (within r.0 (inr r.1)) (turns e (inl refl)).turns (turns r.0 (inr r.1)).turns (same_span d e d r.0 mask span r.2) in
+        let f = (ends_once n qs ds a d e d r.0 m (within e (inl refl)) m (within r.0 (inr r.1)) (turns e (inl refl)).turns (turns r.0 (inr r.1)).turns (same_span d e d r.0 mask span r.2)).1 in
         not_itself n e (subst (TurnsTo n e) (sym f) (before r.0 r.1))
 
   row_of : (d : Vector) (es : List Vector) → Member d ds → ((e : Vector) → Member e es → Member e ds) → ((e : Vector) → Member e es → TurnsTo n d e) → Ascends (TurnsTo n) es → (row : List ℕ) × IsRow d es row
@@ -147,9 +153,6 @@ module _ (n : Vector) (qs ds : List Vector) (a : AreAhead n qs ds) where
 
   backwards : (u v : Vector) → TurnsTo n u v → pos 0 <ℤ turn v u → ⊥
   backwards u v p t = let s = turn-swap u v p.first.entries p.second.entries in let q = p.turns in omega (arith, ints, s, t, q)
-
-  no_self : (u v : Vector) → IsAhead n u → u ≡ v → pos 0 <ℤ turn u v → ⊥
-  no_self u v h e t = let s = turn-self u h.entries in let g = ap (turn u) e in omega (arith, ints, s, g, t)
 
   triangle_more : (d : Vector) (es : List Vector) (row masks : List ℕ) → ((x : Vector) → Member x (d ∷ es) → Member x ds) → ((x : Vector) → Member x es → TurnsTo n d x)
       → IsRow d es row → IsTriangle es masks → IsTriangle (d ∷ es) (row ++ masks)
@@ -166,7 +169,7 @@ module _ (n : Vector) (qs ds : List Vector) (a : AreAhead n qs ds) where
     ]
 
     all : (u v : Vector) → Member u (d ∷ es) → Member v (d ∷ es) → pos 0 <ℤ turn u v → (m : ℕ) × Member m (row ++ masks) × IsSpanMask qs u v m
-    all u v (inl e) (inl f) q = absurd (no_self u v (a.directions u (within u (inl e))) (sym e ∙ f) q)
+    all u v (inl e) (inl f) q = absurd (apart_left u v (a.directions u (within u (inl e))).entries q (sym e ∙ f))
     all u v (inl e) (inr k) q = let g = r.all v k in (g.0, member_left g.0 row masks g.1, subst (λ (x : Vector). IsSpanMask qs x v g.0) e g.2)
     all u v (inr h) (inl f) q = absurd (backwards d u (before u h) (subst (λ (x : Vector). pos 0 <ℤ turn u x) (sym f) q))
     all u v (inr h) (inr k) q = let g = t.all u v h k q in (g.0, member_right g.0 row masks g.1, g.2)
@@ -174,7 +177,7 @@ module _ (n : Vector) (qs ds : List Vector) (a : AreAhead n qs ds) where
     apart : (m : ℕ) → Member m row → Member m masks → ⊥
     apart m h k =
         let p = r.from m h in let q = t.from m k in
-        let e = low_once n qs ds a d p.0 q.0 q.1 (within d (inl refl)) (within p.0 (inr p.1)) (within q.0 (inr q.2)) (within q.1 (inr q.3)) (before p.0 p.1).turns q.4 (same_span d p.0 q.0 q.1 m p.2 q.5) in
+        let e = (ends_once n qs ds a d p.0 q.0 q.1 (within d (inl refl)) (within p.0 (inr p.1)) (within q.0 (inr q.2)) (within q.1 (inr q.3)) (before p.0 p.1).turns q.4 (same_span d p.0 q.0 q.1 m p.2 q.5)).0 in
         not_itself n d (subst (TurnsTo n d) (sym e) (before q.0 q.2))
 
   triangle_of : (es : List Vector) → ((e : Vector) → Member e es → Member e ds) → Ascends (TurnsTo n) es → (masks : List ℕ) × IsTriangle es masks

@@ -189,20 +189,19 @@ module _ (n : Vector) (qs ds : List Vector) (a : AreAhead n qs ds) where
       by (inr z) = absurd (positive_no_zero_sum 2 n vs vs_have (λ q k. (a.columns q (face_member qs m q k)).above) z)
 
   -- ---- one cone has one pair
-  pub low_once : (u v x y : Vector) → Member u ds → Member v ds → Member x ds → Member y ds → pos 0 <ℤ turn u v → pos 0 <ℤ turn x y
-      → SameSet (InCone 2 (u ∷ v ∷ [])) (InCone 2 (x ∷ y ∷ [])) → u ≡ x
-  low_once u v x y m k p q turns turns2 same =
-      let o = opens_of u v m k turns in let r = opens_of x y p q turns2 in
-      let i = inside_of_pair u v x o ((same x).1 (pair_has_low x y r)) in
-      let j = inside_of_pair x y u r ((same u).0 (pair_has_low u v o)) in
-      let s = turn-swap u x o.low_entries r.low_entries in let after = i.after in let before = j.after in
-      level_same n u x a.entries (a.directions u m) (a.directions x p) (a.primitive u m) (a.primitive x p) (omega (arith, ints, s, after, before))
+  -- neither of two directions lies to the right of the other
+  pub level_once : (u x : Vector) → Member u ds → Member x ds → pos 0 ≤ℤ turn u x → pos 0 ≤ℤ turn x u → u ≡ x
+  level_once u x m k p q =
+      let s = turn-swap u x (a.directions u m).entries (a.directions x k).entries in
+      level_same n u x a.entries (a.directions u m) (a.directions x k) (a.primitive u m) (a.primitive x k) (omega (arith, ints, s, p, q))
 
-  pub high_once : (u v x y : Vector) → Member u ds → Member v ds → Member x ds → Member y ds → pos 0 <ℤ turn u v → pos 0 <ℤ turn x y
-      → SameSet (InCone 2 (u ∷ v ∷ [])) (InCone 2 (x ∷ y ∷ [])) → v ≡ y
-  high_once u v x y m k p q turns turns2 same =
-      let o = opens_of u v m k turns in let r = opens_of x y p q turns2 in
-      let i = inside_of_pair u v y o ((same y).1 (pair_has_high x y r)) in
-      let j = inside_of_pair x y v r ((same v).0 (pair_has_high u v o)) in
-      let s = turn-swap v y o.high_entries r.high_entries in let after = j.before in let before = i.before in
-      level_same n v y a.entries (a.directions v k) (a.directions y q) (a.primitive v k) (a.primitive y q) (omega (arith, ints, s, after, before))
+  -- equal cones of two directions each: their low ends are equal, and so are their high ends
+  pub ends_once : (u v x y : Vector) → Member u ds → Member v ds → Member x ds → Member y ds → pos 0 <ℤ turn u v → pos 0 <ℤ turn x y
+      → SameSet (InCone 2 (u ∷ v ∷ [])) (InCone 2 (x ∷ y ∷ [])) → (u ≡ x) × (v ≡ y)
+  ends_once u v x y mu mv mx my turns turns2 same =
+      let o = opens_of u v mu mv turns in let r = opens_of x y mx my turns2 in
+      let from_low = inside_of_pair u v x o ((same x).1 (pair_has_low x y r)) in
+      let to_low = inside_of_pair x y u r ((same u).0 (pair_has_low u v o)) in
+      let from_high = inside_of_pair u v y o ((same y).1 (pair_has_high x y r)) in
+      let to_high = inside_of_pair x y v r ((same v).0 (pair_has_high u v o)) in
+      (level_once u x mu mx from_low.after to_low.after, level_once v y mv my to_high.before from_high.before)

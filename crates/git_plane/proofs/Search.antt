@@ -12,7 +12,7 @@ use Rattle.git_ints.specs.Plane.{HasWedge, LiesBetween, turn}
 use Rattle.git_plane.proofs.Directions.{AreAhead, HasDirection, IsMultiple, generic_ahead, generic_turns, multiple_turns}
 use Rattle.git_plane.proofs.PairCones.{Inside, Opens, inside_of_cone}
 use Rattle.git_plane.proofs.Turns.{IsAhead, Turning, left, level, right, turn_through, turn_into, turning}
-use Rattle.git_plane.specs.PlaneListings.{AreNeighbours}
+use Rattle.git_plane.specs.Neighbours.{IsBetweenNeighbours}
 
 -- a member that passes the test, before all others that do
 record Best (P : Vector → Type 0) (R : Vector → Vector → Type 0) (list : List Vector) : Type 0 where
@@ -77,14 +77,6 @@ positive_or_not : (z : ℤ) → (pos 0 <ℤ z) ⊎ ((pos 0 <ℤ z) → ⊥)
 positive_or_not (pos zero) = inr (λ h. omega (arith, ints, h))
 positive_or_not (pos (suc n)) = inl (omega (arith, ints))
 positive_or_not (negsuc n) = inr (λ h. omega (arith, ints, h))
-
--- the neighbours that w lies strictly between
-pub record HasNeighbours (ds : List Vector) (w : Vector) : Type 0 where
-  pub low : Vector
-  pub high : Vector
-  pub near : AreNeighbours ds low high
-  pub after : pos 0 <ℤ turn low w
-  pub before : pos 0 <ℤ turn w high
 
 module _ (n : Vector) (qs ds : List Vector) (a : AreAhead n qs ds) where
   turn_or : (x y : Vector) → Member x ds → Member y ds → (pos 0 ≤ℤ turn x y) ⊎ (pos 0 ≤ℤ turn y x)
@@ -158,7 +150,7 @@ module _ (n : Vector) (qs ds : List Vector) (a : AreAhead n qs ds) where
           let q = multiple_turns e.direction wedge.end.high w w this.entries weight.entries e.multiple itself p in
           let s = turn-swap w wedge.end.high weight.entries ends.high_entries in let b = between.before in omega (arith, ints, q, s, b)
 
-    neighbours_of : Best (λ d. pos 0 <ℤ turn d w) (λ x y. pos 0 ≤ℤ turn y x) ds → Best (λ d. pos 0 <ℤ turn w d) (λ x y. pos 0 ≤ℤ turn x y) ds → HasNeighbours ds w
+    neighbours_of : Best (λ d. pos 0 <ℤ turn d w) (λ x y. pos 0 ≤ℤ turn y x) ds → Best (λ d. pos 0 <ℤ turn w d) (λ x y. pos 0 ≤ℤ turn x y) ds → IsBetweenNeighbours ds w
     neighbours_of l h = record {
       low = l.one;
       high = h.one;
@@ -181,7 +173,7 @@ module _ (n : Vector) (qs ds : List Vector) (a : AreAhead n qs ds) where
         by (level z) = generic_turns n qs ds w d a generic m z
         by (right r) = let b = h.best d m r in let s = turn-swap d h.one this.entries (a.directions h.one h.member).entries in omega (arith, ints, b, s, q)
 
-    pub has_neighbours : HasNeighbours ds w
+    pub has_neighbours : IsBetweenNeighbours ds w
     has_neighbours = elim (best_or_none (λ d. pos 0 <ℤ turn d w) (λ x y. pos 0 ≤ℤ turn y x) (λ d. positive_or_not (turn d w)) ds leftmost) [
       | inr none ↦ absurd (some_before none)
       | inl l ↦ elim (best_or_none (λ d. pos 0 <ℤ turn w d) (λ x y. pos 0 ≤ℤ turn x y) (λ d. positive_or_not (turn w d)) ds rightmost) [

@@ -1,7 +1,7 @@
 -- Lists in the order of a relation.
-use Rattle.std.proofs.Common.{◌≡◌, ◌<◌, ◌∙◌, ◌⊎◌, ◌∷◌, [], List, ap, arith, get_or, inl, inr, length, refl, subst, suc, zero, ℕ}
+use Rattle.std.proofs.Common.{◌≡◌, ◌<◌, ◌∙◌, ◌⊎◌, ◌∷◌, [], List, ap, arith, get_or, inl, inr, length, refl, subst, suc, sym, zero, ℕ}
 use Rattle.std.specs.Prelude.{AllPairs}
-use Rattle.git_defs.proofs.Members.{Member}
+use Rattle.git_defs.proofs.Members.{Member, member_contains}
 
 module _ {X : Type 0} (R : X → X → Type 0) where
   -- each member stands before all later ones
@@ -83,3 +83,31 @@ module _ {X : Type 0} (R : X → X → Type 0) where
   pairs_of_ascends (x ∷ xs) a i zero d lt h = absurd (omega arith)
   pairs_of_ascends (x ∷ xs) a zero (suc j) d lt h = a.0 (get_or xs j d) (at xs j d (omega arith))
   pairs_of_ascends (x ∷ xs) a (suc i) (suc j) d lt h = pairs_of_ascends xs a.1 i j d (omega arith) (omega arith)
+
+  pub ascends_of_pairs : (xs : List X) → AllPairs R xs → Ascends xs
+  ascends_of_pairs [] p = tt
+  ascends_of_pairs (x ∷ xs) p = (
+    λ y m. (let c = member_contains y xs m in subst (R x) c.2 (p 0 (suc c.0) y (omega arith) (let h = c.1 in omega arith))),
+    ascends_of_pairs xs (λ i j d h l. p (suc i) (suc j) d (omega arith) (omega arith)),
+  )
+
+  -- ---- a list in order is known by its members
+  module _ (irreflexive : (x : X) → R x x → ⊥) (trans : (x y z : X) → R x y → R y z → R x z) where
+    first_same : (u v : X) (us vs : List X) → Ascends (u ∷ us) → Ascends (v ∷ vs) → Member u (v ∷ vs) → Member v (u ∷ us) → u ≡ v
+    first_same u v us vs a b (inl e) n = sym e
+    first_same u v us vs a b (inr m) (inl e) = e
+    first_same u v us vs a b (inr m) (inr n) = absurd (irreflexive u (trans u v u (a.0 v n) (b.0 u m)))
+
+    rest_within : (u v : X) (us vs : List X) → Ascends (u ∷ us) → u ≡ v → ((x : X) → Member x (u ∷ us) → Member x (v ∷ vs)) → (x : X) → Member x us → Member x vs
+    rest_within u v us vs a e to x m = elim (to x (inr m)) [
+      | inl f ↦ absurd (irreflexive u (subst (R u) (sym (e ∙ f)) (a.0 x m)))
+      | inr n ↦ n
+    ]
+
+    pub once : (us vs : List X) → Ascends us → Ascends vs → ((x : X) → Member x us → Member x vs) → ((x : X) → Member x vs → Member x us) → us ≡ vs
+    once [] [] a b to back = refl
+    once [] (v ∷ vs) a b to back = absurd (back v (inl refl))
+    once (u ∷ us) [] a b to back = absurd (to u (inl refl))
+    once (u ∷ us) (v ∷ vs) a b to back =
+        let e = first_same u v us vs a b (to u (inl refl)) (back v (inl refl)) in
+        λ i. e i ∷ once us vs a.1 b.1 (rest_within u v us vs a e to) (rest_within v u vs us b (sym e) back) i

@@ -1,72 +1,63 @@
--- The listing found by turns is the listing of the chambers.
-use Rattle.std.proofs.Common.{◌≡◌, ◌⊎◌, ◌∙◌, List, arith, inl, inr, length, sym}
-use Rattle.std.proofs.lemmas.Int.{ints}
-use Rattle.git_defs.proofs.Linear.{dot-comm, dot-plus, length-plus}
-use Rattle.git_defs.proofs.Members.{Member, OfLength, all_member, all_of_length, contains_member}
+-- The laws of gradings with two rows: the cones, the chambers, and the listing found by turns.
+use Rattle.std.proofs.Common.{◌≡◌, ◌∙◌, ◌<◌, List, ◌∷◌, [], ◌*◌, ◌-◌, ◌/◌, ap, arith, length, subst, sym, ℕ}
+use Rattle.std.proofs.Math.IntN.{pos}
+use Rattle.std.specs.Prelude.{◌<ℤ◌}
+use Rattle.git_defs.proofs.Members.{contains_member, member_contains}
+use Rattle.git_defs.specs.Chambers.{InChamberOf, IsGeneric}
+use Rattle.git_defs.specs.Cones.{InCone, SameSet}
+use Rattle.git_defs.specs.Faces.{AreCones, cone_at}
 use Rattle.git_defs.specs.Listings.{IsRankTwoListing, Listing}
-use Rattle.git_defs.specs.Vectors.{HasZeroSum, Vector, plus}
-use Rattle.git_ints.proofs.PlaneRanks.{rank_turns}
-use Rattle.git_ints.proofs.Wedges.{wedge_or_zero_sum}
+use Rattle.git_defs.specs.Vectors.{Vector}
 use Rattle.git_ints.specs.Gradings.{IsGrading}
-use Rattle.git_ints.specs.Plane.{HasWedge, LiesBetween}
-use Rattle.git_plane.proofs.Directions.{are_ahead}
+use Rattle.git_ints.specs.Plane.{turn}
+use Rattle.git_plane.proofs.Chambers.{ArePairCones, chamber_of_between}
+use Rattle.git_plane.proofs.Directions.{AreAhead, are_ahead}
+use Rattle.git_plane.proofs.Gradings.{IsOneSided, grading_side}
 use Rattle.git_plane.proofs.Listed.{AreBetween, all_listed, each_listed}
-use Rattle.git_plane.proofs.MaskLists.{cone_list}
-use Rattle.git_plane.proofs.Turns.{IsAhead, dot-left, dot-right, length-left, length-right}
-use Rattle.git_plane.specs.PlaneListings.{IsPlaneListing, quarter_left, quarter_right}
+use Rattle.git_plane.proofs.MaskLists.{HasConeList, cone_list, cones_once}
+use Rattle.git_plane.proofs.Search.{has_neighbours}
+use Rattle.git_plane.specs.Neighbours.{IsBetweenNeighbours}
+use Rattle.git_plane.specs.PlaneListings.{AreDirections, AreNeighbours, IsPlaneListing}
 
 module _ (qs : List Vector) (grading : IsGrading 2 qs) where
-  have : OfLength 2 qs
-  have = all_of_length 2 qs grading.matrix.lengths
+  side : IsOneSided qs
+  side = grading_side qs grading
 
-  module _ (wedge : HasWedge qs) where
-    abbrev lo : Vector
-    lo = wedge.low
+  ahead : (ds : List Vector) → AreDirections qs ds → AreAhead side.normal qs ds
+  ahead ds given = are_ahead side.normal qs ds side.entries side.columns given
 
-    abbrev hi : Vector
-    hi = wedge.end.high
+  pub weight_has_neighbours : (ds : List Vector) (w : Vector) → AreDirections qs ds → IsGeneric 2 qs w → IsBetweenNeighbours ds w
+  weight_has_neighbours ds w given generic = has_neighbours side.normal qs ds (ahead ds given) side.wedge w generic
 
-    lo_entries : length lo ≡ 2
-    lo_entries = have.each lo (contains_member lo qs wedge.low_in)
+  module _ (ds : List Vector) (given : AreDirections qs ds) where
+    cones : HasConeList side.normal qs ds (ahead ds given)
+    cones = cone_list side.normal qs ds (ahead ds given)
 
-    hi_entries : length hi ≡ 2
-    hi_entries = have.each hi (contains_member hi qs wedge.end.high_in)
+    -- what is known of the list that was made holds of each list of the cones
+    pub cones_are_pairs : (masks : List ℕ) → AreCones 2 qs (λ _. Unit {0}) masks → length masks ≡ length ds * (length ds - 1) / 2
+    cones_are_pairs masks are = ap length (cones_once 2 qs (λ _. Unit {0}) masks cones.masks are cones.are_cones) ∙ cones.size
 
-    -- positive on all columns
-    abbrev middle : Vector
-    middle = plus (quarter_left lo) (quarter_right hi)
+    pairs : (masks : List ℕ) → AreCones 2 qs (λ _. Unit {0}) masks → ArePairCones ds (length masks) (cone_at 2 qs masks)
+    pairs masks are = subst (λ (ms : List ℕ). ArePairCones ds (length ms) (cone_at 2 qs ms)) (cones_once 2 qs (λ _. Unit {0}) cones.masks masks cones.are_cones are) cones.pairs
 
-    same_lengths : length (quarter_left lo) ≡ length (quarter_right hi)
-    same_lengths = length-left lo lo_entries ∙ sym (length-right hi hi_entries)
-
-    columns_ahead : (q : Vector) → Member q qs → IsAhead middle q
-    columns_ahead q m =
-        let e = have.each q m in
-        let b = all_member (LiesBetween lo hi) q qs wedge.end.is.between m in
-        let sum = dot-comm middle q ∙ dot-plus q (quarter_left lo) (quarter_right hi) same_lengths in
-        let l = dot-comm q (quarter_left lo) ∙ dot-left lo q lo_entries e in
-        let r = dot-comm q (quarter_right hi) ∙ dot-right hi q hi_entries e in
-        let o = b.off_zero in
-        record { entries = e; above = omega (arith, ints, sum, l, r, o) }
-
-    by_wedge : (listing : Listing) → IsPlaneListing qs listing → IsRankTwoListing qs listing
-    by_wedge listing p =
-        let a = are_ahead middle qs p.directions (length-plus (quarter_left lo) (quarter_right hi) same_lengths ∙ length-left lo lo_entries) columns_ahead p.are_directions in
-        let l = cone_list middle qs p.directions a in
-        let between : AreBetween p.directions listing.chambers = record { each = p.listed; all = p.all } in
-        record {
-          rank = p.rank;
-          size = p.size;
-          masks = l.masks;
-          are_cones = l.are_cones;
-          cones = p.cones ∙ sym l.size;
-          ordered = p.ordered;
-          listed = each_listed middle qs p.directions a l.masks l.pairs listing.chambers between;
-          all = all_listed middle qs p.directions a l.masks l.pairs listing.chambers between wedge;
-        }
+    pub chamber_of_weight : (masks : List ℕ) (w : Vector) → AreCones 2 qs (λ _. Unit {0}) masks → length w ≡ 2 → (b : IsBetweenNeighbours ds w)
+        → SameSet (InChamberOf (length masks) (cone_at 2 qs masks) w) (InCone 2 (b.low ∷ b.high ∷ []))
+    chamber_of_weight masks w are e b =
+        chamber_of_between side.normal qs ds (ahead ds given) b.low b.high b.near w e b.after b.before (length masks) (cone_at 2 qs masks) (pairs masks are)
 
   pub plane_listing : (listing : Listing) → IsPlaneListing qs listing → IsRankTwoListing qs listing
-  plane_listing listing p = by (wedge_or_zero_sum qs have (rank_turns qs have grading.rank)) where
-    by : HasWedge qs ⊎ HasZeroSum 2 qs → IsRankTwoListing qs listing
-    by (inl w) = by_wedge w listing p
-    by (inr z) = absurd (grading.pointed z)
+  plane_listing listing p =
+      let ds = p.directions in
+      let a = ahead ds p.are_directions in
+      let l = cones ds p.are_directions in
+      let between : AreBetween ds listing.chambers = record { each = p.listed; all = p.all } in
+      record {
+        rank = p.rank;
+        size = p.size;
+        masks = l.masks;
+        are_cones = l.are_cones;
+        cones = p.cones ∙ sym l.size;
+        ordered = p.ordered;
+        listed = each_listed side.normal qs ds a l.masks l.pairs listing.chambers between;
+        all = all_listed side.normal qs ds a l.masks l.pairs listing.chambers between side.wedge;
+      }

@@ -1,5 +1,5 @@
 -- Turns between vectors on one side of a line through 0, and quarter turns.
-use Rattle.std.proofs.Common.{◌≡◌, ◌∙◌, ◌<◌, ◌∷◌, [], ap, arith, length, refl, sym, suc, zero}
+use Rattle.std.proofs.Common.{◌≡◌, ◌⊎◌, inl, inr, ◌∙◌, ◌<◌, ◌∷◌, [], ap, arith, length, refl, sym, suc, zero}
 use Rattle.std.proofs.Math.IntN.{◌*ℤ◌, ◌+ℤ◌, ◌-ℤ◌, neg_ℤ, negsuc, pos, ℤ}
 use Rattle.std.proofs.lemmas.Int.{ints}
 use Rattle.std.specs.Prelude.{◌<ℤ◌, ◌≤ℤ◌}
@@ -10,7 +10,7 @@ use Rattle.git_defs.specs.Cones.{OnRay}
 use Rattle.git_defs.specs.Vectors.{IsPrimitive, Vector, dot, plus, scale}
 use Rattle.git_geometry.proofs.Primitive.{primitive_nonzero}
 use Rattle.git_geometry.proofs.Rays.{primitive_of_ray}
-use Rattle.git_ints.proofs.Turns.{in_plane, turn-swap}
+use Rattle.git_ints.proofs.Turns.{in_plane, turn-self, turn-swap}
 use Rattle.git_ints.specs.Plane.{turn}
 use Rattle.git_plane.specs.PlaneListings.{quarter_left, quarter_right}
 
@@ -223,3 +223,14 @@ turning u v e f = by (turn u v) refl where
   by (pos zero) h = level h
   by (pos (suc n)) h = left (omega (arith, ints, h))
   by (negsuc n) h = right (let s = turn-swap u v e f in omega (arith, ints, h, s))
+
+-- to the left of a vector lies another
+pub apart_left : (u v : Vector) → length u ≡ 2 → pos 0 <ℤ turn u v → u ≡ v → ⊥
+apart_left u v e t f = let s = turn-self u e in let g = ap (turn u) f in omega (arith, ints, s, g, t)
+
+pub same_or_not : (n u v : Vector) → length n ≡ 2 → IsAhead n u → IsAhead n v → IsPrimitive u → IsPrimitive v → (u ≡ v) ⊎ (u ≡ v → ⊥)
+same_or_not n u v e a b p q = by (turning u v a.entries b.entries) where
+  by : Turning u v → (u ≡ v) ⊎ (u ≡ v → ⊥)
+  by (left t) = inr (apart_left u v a.entries t)
+  by (level z) = inl (level_same n u v e a b p q z)
+  by (right t) = inr (λ f. apart_left v u b.entries t (sym f))
