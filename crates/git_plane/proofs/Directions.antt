@@ -125,15 +125,18 @@ column_more n q qs ds a this =
     ]
 
 pub has_directions : (n : Vector) (qs : List Vector) → length n ≡ 2 → ((q : Vector) → Member q qs → IsAhead n q) → (ds : List Vector) × AreAhead n qs ds
-has_directions n [] e aheads = ([], record {
-  entries = e;
-  columns = λ q m. absurd m;
-  directions = λ d m. absurd m;
-  primitive = λ d m. absurd m;
-  column = λ d m. absurd m;
-  direction = λ q m. absurd m;
-  distinct = λ i j d lt h. absurd (omega arith);
-})
+has_directions n [] e aheads = (
+  [],
+  record {
+    entries = e;
+    columns = λ q m. absurd m;
+    directions = λ d m. absurd m;
+    primitive = λ d m. absurd m;
+    column = λ d m. absurd m;
+    direction = λ q m. absurd m;
+    distinct = λ i j d lt h. absurd (omega arith);
+  },
+)
 has_directions n (q ∷ qs) e aheads =
     let rest = has_directions n qs e (λ x m. aheads x (inr m)) in
     column_more n q qs rest.0 rest.1 (aheads q (inl refl))

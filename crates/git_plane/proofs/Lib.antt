@@ -10,3 +10,6 @@ pub mod PairMasks
 pub mod MaskLists
 pub mod Theorem
 pub mod Gradings
+pub mod Places
+pub mod Behind
+pub mod Unique

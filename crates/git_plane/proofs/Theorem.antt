@@ -1,15 +1,11 @@
 -- The laws of gradings with two rows: the cones, the chambers, and the listing found by turns.
-use Rattle.std.proofs.Common.{◌≡◌, ◌∙◌, ◌<◌, List, ◌∷◌, [], ◌*◌, ◌-◌, ◌/◌, ap, arith, length, subst, sym, ℕ}
-use Rattle.std.proofs.Math.IntN.{pos}
-use Rattle.std.specs.Prelude.{◌<ℤ◌}
-use Rattle.git_defs.proofs.Members.{contains_member, member_contains}
+use Rattle.std.proofs.Common.{◌≡◌, ◌∙◌, List, ◌∷◌, [], ◌*◌, ◌-◌, ◌/◌, ap, length, subst, sym, ℕ}
 use Rattle.git_defs.specs.Chambers.{InChamberOf, IsGeneric}
 use Rattle.git_defs.specs.Cones.{InCone, SameSet}
 use Rattle.git_defs.specs.Faces.{AreCones, cone_at}
 use Rattle.git_defs.specs.Listings.{IsRankTwoListing, Listing}
 use Rattle.git_defs.specs.Vectors.{Vector}
 use Rattle.git_ints.specs.Gradings.{IsGrading}
-use Rattle.git_ints.specs.Plane.{turn}
 use Rattle.git_plane.proofs.Chambers.{ArePairCones, chamber_of_between}
 use Rattle.git_plane.proofs.Directions.{AreAhead, are_ahead}
 use Rattle.git_plane.proofs.Gradings.{IsOneSided, grading_side}
@@ -17,7 +13,7 @@ use Rattle.git_plane.proofs.Listed.{AreBetween, all_listed, each_listed}
 use Rattle.git_plane.proofs.MaskLists.{HasConeList, cone_list, cones_once}
 use Rattle.git_plane.proofs.Search.{has_neighbours}
 use Rattle.git_plane.specs.Neighbours.{IsBetweenNeighbours}
-use Rattle.git_plane.specs.PlaneListings.{AreDirections, AreNeighbours, IsPlaneListing}
+use Rattle.git_plane.specs.PlaneListings.{AreDirections, IsPlaneListing}
 
 module _ (qs : List Vector) (grading : IsGrading 2 qs) where
   side : IsOneSided qs

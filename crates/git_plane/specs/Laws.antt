@@ -35,3 +35,8 @@ ChamberIsConeOfNeighbours = (columns directions : List Vector) (masks : List ℕ
 -- the listing found by turns is the listing of the chambers
 abbrev pub PlaneListingHasTheChambers : Type 0
 PlaneListingHasTheChambers = (columns : List Vector) (listing : Listing) → IsGrading 2 columns → IsPlaneListing columns listing → IsRankTwoListing columns listing
+
+-- a grading has at most one listing
+abbrev pub GradingHasOneListing : Type 0
+GradingHasOneListing = (columns : List Vector) (listing other : Listing) → IsGrading 2 columns → IsRankTwoListing columns listing → IsRankTwoListing columns other
+    → listing ≡ other

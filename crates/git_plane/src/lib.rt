@@ -9,6 +9,7 @@ ghost use Rattle.git_plane.specs.Laws.{
   GenericWeightHasNeighbours,
   ChamberIsConeOfNeighbours,
   PlaneListingHasTheChambers,
+  GradingHasOneListing,
 };
 
 /// The rays of the cone of two primitive vectors are these two, and its facets are 0 at the one and
@@ -36,4 +37,9 @@ pub fn chamber_is_the_cone_of_neighbours()
 /// the listing of the chambers of all generic weights.
 pub fn plane_listing_has_the_chambers()
     ensures { PlaneListingHasTheChambers }
+{}
+
+/// A grading with two rows has at most one listing: what is printed of its chambers is determined.
+pub fn grading_has_one_listing()
+    ensures { GradingHasOneListing }
 {}
