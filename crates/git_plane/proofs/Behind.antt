@@ -17,41 +17,22 @@ use Rattle.git_geometry.proofs.Sorted.{rays_once}
 use Rattle.git_ints.proofs.PlaneRanks.{turns_rank}
 use Rattle.git_ints.specs.Plane.{HasWedge}
 use Rattle.git_plane.proofs.Chambers.{ArePairCones, chamber_of_between}
-use Rattle.git_plane.proofs.Directions.{AreAhead, generic_ahead, neighbours_hold, neighbours_open}
+use Rattle.git_plane.proofs.Directions.{AreAhead, direction_once, generic_ahead, neighbours_hold, neighbours_open}
 use Rattle.git_plane.proofs.PairCones.{Opens, each_of_two, inside_of_pair, two_have}
 use Rattle.git_plane.proofs.Places.{place_once}
 use Rattle.git_plane.proofs.Search.{has_neighbours}
-use Rattle.git_plane.proofs.Turns.{Turning, left, level, level_same, right, turning}
 use Rattle.git_plane.specs.Neighbours.{IsBetweenNeighbours}
 use Rattle.git_plane.specs.PlaneListings.{AreNeighbours}
 
 module _ (n : Vector) (qs ds : List Vector) (a : AreAhead n qs ds) where
   -- ---- a direction has one neighbour on each side
-  pub high_of_low : (low high other : Vector) → AreNeighbours ds low high → AreNeighbours ds low other → high ≡ other
-  high_of_low low high other p q = by (turning high other (a.directions high high_in).entries (a.directions other other_in).entries) where
-    high_in : Member high ds
-    high_in = contains_member high ds p.high_in
+  high_of_low : (low high other : Vector) → AreNeighbours ds low high → AreNeighbours ds low other → high ≡ other
+  high_of_low low high other p q = direction_once n qs ds high other a (contains_member high ds p.high_in) (contains_member other ds q.high_in)
+      (λ t. q.none_between high p.high_in p.turns t) (λ t. p.none_between other q.high_in q.turns t)
 
-    other_in : Member other ds
-    other_in = contains_member other ds q.high_in
-
-    by : Turning high other → high ≡ other
-    by (left t) = absurd (q.none_between high p.high_in p.turns t)
-    by (level e) = level_same n high other a.entries (a.directions high high_in) (a.directions other other_in) (a.primitive high high_in) (a.primitive other other_in) e
-    by (right t) = absurd (p.none_between other q.high_in q.turns t)
-
-  pub low_of_high : (low other high : Vector) → AreNeighbours ds low high → AreNeighbours ds other high → low ≡ other
-  low_of_high low other high p q = by (turning low other (a.directions low low_in).entries (a.directions other other_in).entries) where
-    low_in : Member low ds
-    low_in = contains_member low ds p.low_in
-
-    other_in : Member other ds
-    other_in = contains_member other ds q.low_in
-
-    by : Turning low other → low ≡ other
-    by (left t) = absurd (p.none_between other q.low_in t q.turns)
-    by (level e) = level_same n low other a.entries (a.directions low low_in) (a.directions other other_in) (a.primitive low low_in) (a.primitive other other_in) e
-    by (right t) = absurd (q.none_between low p.low_in t p.turns)
+  low_of_high : (low other high : Vector) → AreNeighbours ds low high → AreNeighbours ds other high → low ≡ other
+  low_of_high low other high p q = direction_once n qs ds low other a (contains_member low ds p.low_in) (contains_member other ds q.low_in)
+      (λ t. p.none_between other q.low_in t q.turns) (λ t. q.none_between low p.low_in t p.turns)
 
   module _ (wedge : HasWedge qs) (masks : List ℕ) (cones : ArePairCones ds (length masks) (cone_at 2 qs masks)) where
     -- the neighbours that the chamber lies between

@@ -228,6 +228,14 @@ generic_turns n qs ds w d a g m e =
     let along = level_ray n c.column w a.entries (a.columns c.column c.member) (generic_ahead n qs ds w a g) f in
     g.off_rays c.column (member_contains c.column qs c.member) along.on along.some
 
+-- two directions, neither of which lies to the left of the other, are equal
+pub direction_once : (n : Vector) (qs ds : List Vector) (u v : Vector) → AreAhead n qs ds → Member u ds → Member v ds → (pos 0 <ℤ turn u v → ⊥) → (pos 0 <ℤ turn v u → ⊥) → u ≡ v
+direction_once n qs ds u v a m k not_left not_right = by (turning u v (a.directions u m).entries (a.directions v k).entries) where
+  by : Turning u v → u ≡ v
+  by (left t) = absurd (not_left t)
+  by (level e) = level_same n u v a.entries (a.directions u m) (a.directions v k) (a.primitive u m) (a.primitive v k) e
+  by (right t) = absurd (not_right t)
+
 -- ---- neighbours
 pub neighbours_open : (n : Vector) (qs ds : List Vector) (low high : Vector) → AreAhead n qs ds → AreNeighbours ds low high → Opens low high
 neighbours_open n qs ds low high a h = record {

@@ -16,10 +16,9 @@ use Rattle.git_ints.proofs.Wedges.{wedge_or_zero_sum}
 use Rattle.git_ints.proofs.ZeroSums.{positive_no_zero_sum}
 use Rattle.git_ints.specs.Plane.{HasTurns, HasWedge, LiesBetween, turn}
 use Rattle.git_plane.proofs.Chambers.{IsPairCone}
-use Rattle.git_plane.proofs.Directions.{AreAhead, HasColumn, HasDirection, direction_in, multiple_in, multiple_turns, turns_of_multiple}
+use Rattle.git_plane.proofs.Directions.{AreAhead, HasColumn, HasDirection, direction_in, direction_once, multiple_in, multiple_turns, turns_of_multiple}
 use Rattle.git_plane.proofs.Masks.{IsMaskOf, mask_of}
 use Rattle.git_plane.proofs.PairCones.{Inside, Opens, inside_of_cone, inside_of_pair, pair_has_high, pair_has_low, pair_of_inside, pair_within, two_have}
-use Rattle.git_plane.proofs.Turns.{level_same}
 
 -- each mask is accepted
 abbrev pub any : ℕ → Type 0
@@ -190,10 +189,10 @@ module _ (n : Vector) (qs ds : List Vector) (a : AreAhead n qs ds) where
 
   -- ---- one cone has one pair
   -- neither of two directions lies to the right of the other
-  pub level_once : (u x : Vector) → Member u ds → Member x ds → pos 0 ≤ℤ turn u x → pos 0 ≤ℤ turn x u → u ≡ x
+  level_once : (u x : Vector) → Member u ds → Member x ds → pos 0 ≤ℤ turn u x → pos 0 ≤ℤ turn x u → u ≡ x
   level_once u x m k p q =
       let s = turn-swap u x (a.directions u m).entries (a.directions x k).entries in
-      level_same n u x a.entries (a.directions u m) (a.directions x k) (a.primitive u m) (a.primitive x k) (omega (arith, ints, s, p, q))
+      direction_once n qs ds u x a m k (λ t. omega (arith, ints, s, p, q, t)) (λ t. omega (arith, ints, s, p, q, t))
 
   -- equal cones of two directions each: their low ends are equal, and so are their high ends
   pub ends_once : (u v x y : Vector) → Member u ds → Member v ds → Member x ds → Member y ds → pos 0 <ℤ turn u v → pos 0 <ℤ turn x y
