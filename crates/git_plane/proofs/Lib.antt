@@ -1,0 +1,15 @@
+pub mod Turns
+pub mod PairCones
+pub mod Directions
+pub mod Chambers
+pub mod Search
+pub mod Listed
+pub mod Sorting
+pub mod Masks
+pub mod PairMasks
+pub mod MaskLists
+pub mod Theorem
+pub mod Gradings
+pub mod Places
+pub mod Behind
+pub mod Unique

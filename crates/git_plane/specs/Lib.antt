@@ -1,0 +1,3 @@
+pub mod PlaneListings
+pub mod Neighbours
+pub mod Laws
