@@ -1,4 +1,5 @@
 pub mod ListingText
 pub mod Views
 pub mod Directions
+pub mod PlanePairs
 pub mod Run
