@@ -5,11 +5,9 @@ use Rattle.std.specs.Io.KnownBytes.{Appends}
 use Rattle.git_base.specs.Faults.{Rose}
 use Rattle.git_base.specs.declared.status.Status.{Status}
 use Rattle.git_base.specs.declared.status.Status.TheVariants as statuses
-use Rattle.git_defs.specs.Listings.{Listing}
 use Rattle.git_ints.specs.Gradings.{Degrees}
 use Rattle.git_text.specs.Grammar.{IsInput}
-use Rattle.git_top.specs.ListingText.{listing_text}
-use Rattle.git_top.specs.Run.{IsRefused, IsUnbuilt, IsPlaneInput, fan_words, Decides, HasWritten, WritesOr, Refuses, RefusesBytes}
+use Rattle.git_top.specs.Run.{IsRefused, IsUnbuilt, IsPlaneInput, ListsChambers, fan_words, Decides, HasWritten, WritesOr, Refuses, RefusesBytes}
 
 -- the status that stands
 whole : (words : List (List ℕ)) (left old new : Option (List ℕ)) (status : Status) (text : List ℕ) → Decides words left status text → Appends old new text → HasWritten words left old new status
@@ -44,12 +42,12 @@ stands old new before now status result text (inr w) calm = absurd (calm w.2)
 
 -- ---- from the bytes that were read to those that were left
 pub text_left : {T : Type 0} (left : Option (List ℕ)) (items : List ℕ) (bytes_of : T → List ℕ) (r : Result T Status) → IfSome left (λ bs. bs ≡ items) → length items ≤ 2 ^ 22
-    → IfOk r (λ text. (d : Degrees) × (l : Listing) × IsInput items d × (d.k ≡ 2) × (bytes_of text ≡ listing_text l))
-    → IfOk r (λ text. (d : Degrees) × (l : Listing) × IfSome left (λ bytes. IsPlaneInput bytes d) × (bytes_of text ≡ listing_text l))
+    → IfOk r (λ text. (d : Degrees) × IsInput items d × (d.k ≡ 2) × ListsChambers d (bytes_of text))
+    → IfOk r (λ text. (d : Degrees) × IfSome left (λ bytes. IsPlaneInput bytes d) × ListsChambers d (bytes_of text))
 text_left left items bytes_of (Err s) exact few h = tt
-text_left None items bytes_of (Ok text) exact few h = (h.0, h.1, tt, h.4)
+text_left None items bytes_of (Ok text) exact few h = (h.0, tt, h.3)
 text_left (Some bs) items bytes_of (Ok text) exact few h =
-    (h.0, h.1, subst (λ (b : List ℕ). IsPlaneInput b h.0) (sym exact) (record { few = few; input = h.2; two = h.3 }), h.4)
+    (h.0, subst (λ (b : List ℕ). IsPlaneInput b h.0) (sym exact) (record { few = few; input = h.1; two = h.2 }), h.3)
 
 refused_left : (left : Option (List ℕ)) (items : List ℕ) (before now : ℕ) (s : Status) → IfSome left (λ bs. bs ≡ items) → length items ≤ 2 ^ 22 → RefusesBytes items s → Refuses left before now s
 refused_left None items before now statuses.BadInput exact few h = tt

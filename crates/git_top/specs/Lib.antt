@@ -1,4 +1,6 @@
 pub mod ListingText
 pub mod Views
 pub mod Directions
+pub mod PlanePairs
+pub mod Places
 pub mod Run

@@ -5,7 +5,7 @@ use Rattle.std.specs.Io.KnownBytes.{Keeps, Appends}
 use Rattle.git_base.specs.Faults.{Rose}
 use Rattle.git_base.specs.Fronts.{GrowsByFront}
 use Rattle.std.specs.Borrow.{Bor}
-use Rattle.git_defs.specs.Listings.{Listing}
+use Rattle.git_defs.specs.Listings.{Listing, IsRankTwoListing}
 use Rattle.git_ints.specs.Gradings.{Degrees}
 use Rattle.git_text.specs.Grammar.{IsInput, IsNotBuilt, IsBad}
 use Rattle.git_top.specs.ListingText.{listing_text}
@@ -38,6 +38,12 @@ pub record IsPlaneInput (bytes : List ℕ) (d : Degrees) : Type 0 where
   pub input : IsInput bytes d
   pub two : d.k ≡ 2
 
+-- the text is the listing of the chambers of a matrix with two rows
+pub record ListsChambers (d : Degrees) (text : List ℕ) : Type 0 where
+  pub listing : Listing
+  pub is : IsRankTwoListing d.columns listing
+  pub spelled : text ≡ listing_text listing
+
 -- the line that is written for a refusal
 abbrev pub refusal_line : Status → List ℕ
 refusal_line Usage = codes "refused usage" ++ 10 ∷ []
@@ -50,7 +56,7 @@ abbrev pub Decides : List (List ℕ) → Option (List ℕ) → Status → List �
 Decides words left Usage text = (words ≢ fan_words) × (text ≡ refusal_line Usage)
 Decides words left BadInput text = (words ≡ fan_words) × IfSome left IsRefused × (text ≡ refusal_line BadInput)
 Decides words left NotBuilt text = (words ≡ fan_words) × IfSome left IsUnbuilt × (text ≡ refusal_line NotBuilt)
-Decides words left Done text = (words ≡ fan_words) × ((d : Degrees) × (l : Listing) × IfSome left (λ bytes. IsPlaneInput bytes d) × (text ≡ listing_text l))
+Decides words left Done text = (words ≡ fan_words) × ((d : Degrees) × IfSome left (λ bytes. IsPlaneInput bytes d) × ListsChambers d text)
 Decides words left s text = ⊥
 
 -- what was written where the run ended with this status

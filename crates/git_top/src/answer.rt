@@ -6,11 +6,9 @@ ghost use Rattle.std.specs.String.{string_bytes};
 ghost use Rattle.git_base.specs.Faults.{Rose};
 ghost use Rattle.git_base.specs.Fronts.{LosesFront};
 ghost use Rattle.git_base.specs.declared.status.Status.{Status};
-ghost use Rattle.git_defs.specs.Listings.{Listing};
 ghost use Rattle.git_ints.specs.Gradings.{Degrees};
 ghost use Rattle.git_text.specs.Grammar.{IsInput};
-ghost use Rattle.git_top.specs.ListingText.{listing_text};
-ghost use Rattle.git_top.specs.Run.{IsPlaneInput, Refuses, RefusesBytes};
+ghost use Rattle.git_top.specs.Run.{IsPlaneInput, ListsChambers, Refuses, RefusesBytes};
 
 use crate::chambers::listing;
 use crate::printing::print;
@@ -24,7 +22,7 @@ const INPUT_LIMIT: usize = 4 << 20;
 /// The text of the listing of the input that the bytes are.
 fn listed(alloc: Global, bytes: &[u8]) -> Result<String, Status>
     requires { length bytes.now ≤ 2 ^ 22 }
-    ensures text { IfOk result (λ text. (d : Degrees) × (l : Listing) × IsInput bytes.now d × (d.k ≡ 2) × (string_bytes text ≡ listing_text l)) }
+    ensures text { IfOk result (λ text. (d : Degrees) × IsInput bytes.now d × (d.k ≡ 2) × ListsChambers d (string_bytes text)) }
     ensures refusal { IfErr result (RefusesBytes bytes.now) }
     ensures complete { (d : Degrees) → IsInput bytes.now d → d.k ≡ 2 → MatchResult result (λ _. Unit {0}) (λ s. s ≡ Status.NoMemory) }
 {
@@ -45,7 +43,7 @@ fn listed(alloc: Global, bytes: &[u8]) -> Result<String, Status>
 
 /// The text of the listing of the input that the source has left.
 pub(crate) fn answer<S: Source>(alloc: Global, source: &mut S) -> Result<String, Status>
-    ensures text { IfOk result (λ text. (d : Degrees) × (l : Listing) × IfSome (S.left source.old) (λ bytes. IsPlaneInput bytes d) × (string_bytes text ≡ listing_text l)) }
+    ensures text { IfOk result (λ text. (d : Degrees) × IfSome (S.left source.old) (λ bytes. IsPlaneInput bytes d) × ListsChambers d (string_bytes text)) }
     ensures end { OnOk result (IsAtEnd (S.left source.new)) }
     ensures refusal { IfErr result (Refuses (S.left source.old) (S.faults source.old) (S.faults source.new)) }
     ensures complete { IfSome (S.left source.old) (λ bytes. (d : Degrees) → IsPlaneInput bytes d → ¬ Rose (S.faults source.old) (S.faults source.new)

@@ -2,18 +2,16 @@ use Rattle.std.proofs.Common.{◌≡◌, List, ℕ, subst}
 use Rattle.std.specs.String.{string_bytes}
 use Rattle.std.specs.Prelude.{IfOk, IfErr, MatchResult}
 use Rattle.git_base.specs.declared.status.Status.TheVariants as statuses
-use Rattle.git_defs.specs.Listings.{Listing}
 use Rattle.git_ints.specs.Gradings.{Degrees}
 use Rattle.git_text.specs.Grammar.{IsInput}
-use Rattle.git_top.specs.ListingText.{listing_text}
-use Rattle.git_top.specs.Run.{RefusesBytes}
+use Rattle.git_top.specs.Run.{ListsChambers, RefusesBytes}
 use Rattle.git_top.proofs.RunLemmas.{text_left, refusal_left, complete_left}
 use Rattle.git_top.proofs.answer.answer.Goals as goal
 
 pub returns-clause-text : goal.returns-clause-text
 returns-clause-text g c =
     text_left (g.S.Source.left c.args.source.now) c.in-Ok.bytes.items string_bytes c.listed.result c.in-Ok.ensures.exact c.in-Ok.ensures.within
-    (subst (λ (b : List ℕ). IfOk c.listed.result (λ text. (d : Degrees) × (l : Listing) × IsInput b d × (d.k ≡ 2) × (string_bytes text ≡ listing_text l))) c.deref.ensures.value c.listed.ensures.text)
+    (subst (λ (b : List ℕ). IfOk c.listed.result (λ text. (d : Degrees) × IsInput b d × (d.k ≡ 2) × ListsChambers d (string_bytes text))) c.deref.ensures.value c.listed.ensures.text)
 
 pub returns-clause-refusal : goal.returns-clause-refusal
 returns-clause-refusal g c =

@@ -1,6 +1,6 @@
-use Rattle.std.proofs.Common.{refl, ◌∙◌}
+use Rattle.std.proofs.Common.{refl, sym, subst}
 use Rattle.git_base.specs.declared.status.Status.TheVariants as statuses
-use Rattle.git_top.specs.Run.{words_of}
+use Rattle.git_top.specs.Run.{words_of, ListsChambers}
 use Rattle.git_top.proofs.RunLemmas.{has_written, complete_never}
 use Rattle.git_top.proofs.run.gitfan.Goals as goal
 
@@ -13,7 +13,7 @@ pub returns-in-Ok-clause-written : goal.returns-in-Ok-clause-written
 returns-in-Ok-clause-written g c =
     let t = c.in-Ok.ensures.text in
     has_written (words_of c.args.words.now) (g.S.Source.left c.args.source.now) (g.K.Sink.written c.args.sink.now) (g.K.Sink.written c.write_text-in-Ok.new.sink) _ _ statuses.Done c.write_text-in-Ok.result _
-    (c.if-not-asks_for_fan.ensures.0 refl, (t.0, t.1, t.2, c.as_bytes.ensures.value ∙ t.3)) c.write_text-in-Ok.ensures
+    (c.if-not-asks_for_fan.ensures.0 refl, (t.0, t.1, subst (ListsChambers t.0) (sym c.as_bytes.ensures.value) t.2)) c.write_text-in-Ok.ensures
 
 pub returns-in-Err-BadInput-clause-complete : goal.returns-in-Err-BadInput-clause-complete
 returns-in-Err-BadInput-clause-complete g c =
