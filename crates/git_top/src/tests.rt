@@ -31,6 +31,46 @@ fn a_listing_is_written_however_the_bytes_come(rt: HostRuntime) -> Result<(), Fa
     Ok(())
 }
 
+/// Two rays, each with several columns; a part of the second and third quadrants; the third; entries of 1000.
+const WORKED: [(&[u8], &[u8]); 4] = [
+    (
+        b"gitfan 1\ngrading 2 4\n1 2 1 2\n0 0 2 4\nideal 0\nend\n",
+        b"gitfan-listing 1\ngrading 2 4\ncones 1\nchambers 1\nchamber 1\nray 1 0\nray 1 2\nweight 2 2\nfacet 0 1 boundary\nfacet 2 -1 boundary\nend\n",
+    ),
+    (
+        b"gitfan 1\ngrading 2 3\n-1 -1 -2\n1 -1 0\nideal 0\nend\n",
+        b"gitfan-listing 1\ngrading 2 3\ncones 3\nchambers 2\nchamber 1\nray -1 -1\nray -1 0\nweight -2 -1\nfacet -1 1 boundary\nfacet 0 -1 inner 2\nchamber 2\nray -1 0\nray -1 1\nweight -2 1\nfacet -1 -1 boundary\nfacet 0 1 inner 1\nend\n",
+    ),
+    (
+        b"gitfan 1\ngrading 2 3\n-1 0 -1\n0 -1 -1\nideal 0\nend\n",
+        b"gitfan-listing 1\ngrading 2 3\ncones 3\nchambers 2\nchamber 1\nray -1 -1\nray -1 0\nweight -2 -1\nfacet -1 1 inner 2\nfacet 0 -1 boundary\nchamber 2\nray -1 -1\nray 0 -1\nweight -1 -2\nfacet -1 0 boundary\nfacet 1 -1 inner 1\nend\n",
+    ),
+    (
+        b"gitfan 1\ngrading 2 3\n1000 -999 1000\n-999 1000 1000\nideal 0\nend\n",
+        b"gitfan-listing 1\ngrading 2 3\ncones 3\nchambers 2\nchamber 1\nray -999 1000\nray 1 1\nweight -998 1001\nfacet -1 1 inner 2\nfacet 1000 999 boundary\nchamber 2\nray 1 1\nray 1000 -999\nweight 1001 -998\nfacet 1 -1 inner 1\nfacet 999 1000 boundary\nend\n",
+    ),
+];
+
+/// Sixteen directions, and how the listing of their chambers begins.
+const SIXTEEN: &[u8] =
+    b"gitfan 1\ngrading 2 16\n0 1 2 3 4 5 6 7 8 9 10 11 12 13 14 15\n1 1 1 1 1 1 1 1 1 1 1 1 1 1 1 1\nideal 0\nend\n";
+
+const FIRST_OF_FIFTEEN: &[u8] =
+    b"gitfan-listing 1\ngrading 2 16\ncones 120\nchambers 15\nchamber 1\nray 0 1\nray 1 1\nweight 1 2\nfacet -1 1 inner 2\nfacet 1 0 boundary\nchamber 2\n";
+
+#[test]
+fn listings_are_as_worked_by_hand(rt: HostRuntime) -> Result<(), Fail> {
+    for (input, listing) in WORKED {
+        let (status, written) = ran(rt.alloc(), &["fan"], input, 4096)?;
+        assert_eq!(rt; status, Status::Done);
+        assert_eq!(rt; written.as_slice(), listing);
+    }
+    let (status, written) = ran(rt.alloc(), &["fan"], SIXTEEN, 4096)?;
+    assert_eq!(rt; status, Status::Done);
+    assert!(rt; written.starts_with(FIRST_OF_FIFTEEN));
+    Ok(())
+}
+
 #[test]
 fn refusals_write_their_line(rt: HostRuntime) -> Result<(), Fail> {
     let alloc = rt.alloc();
