@@ -5,3 +5,5 @@ pub mod Splitting
 pub mod Faces
 pub mod Searching
 pub mod Closing
+pub mod Grading
+pub mod Parting

@@ -46,7 +46,7 @@ coefficient_nowhere m (t ∷ ts) apart =
     ∙ coefficient_nowhere m ts (λ i d h. apart (suc i) d (omega arith))
 
 -- ranks fall along the list
-ranks_fall : (ts : List Term) (i j : ℕ) (d : Term) → Proper (sum_of ts) → i ≤ j → j < length ts → rank (get_or ts j d).mono ≤ rank (get_or ts i d).mono
+pub ranks_fall : (ts : List Term) (i j : ℕ) (d : Term) → Proper (sum_of ts) → i ≤ j → j < length ts → rank (get_or ts j d).mono ≤ rank (get_or ts i d).mono
 ranks_fall [] i j d u le h = absurd (omega arith)
 ranks_fall (t ∷ ts) zero zero d u le h = omega arith
 ranks_fall (t ∷ ts) zero (suc j) d u le h = omega (arith, rank_at_place (rank t.mono) ts j d u.2 (omega arith))

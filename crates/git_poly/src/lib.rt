@@ -4,11 +4,13 @@
 //! descending order, with its number, which is not 0.
 #![tactic(auto)]
 
+mod degrees;
 mod fault;
 mod poly;
 mod term;
 mod terms;
 
+pub use degrees::degree_of;
 pub use fault::PolyFault;
 pub use poly::Poly;
 

@@ -1,15 +1,18 @@
 //! Polynomials.
 
-ghost use Rattle.std.specs.Prelude.{◌≡◌, ◌≢◌, ◌+◌, ◌<◌, ◌≤◌, ◌↔◌, IsNone, IsTrue, IfOk, Some, length, slice_get};
+ghost use Rattle.std.specs.Prelude.{◌≡◌, ◌≢◌, ◌+◌, ◌<◌, ◌≤◌, ◌↔◌, IsNone, IsTrue, IfOk, IfSome, Some, length, slice_get};
 ghost use Rattle.git_algebra.specs.Exponents.{degree};
 ghost use Rattle.git_algebra.specs.Sums.{coefficient};
 ghost use Rattle.git_algebra.specs.Operations.{zero_polynomial, term_of, plus, minus, scaled as multiple, times_term, multiplied, restricted, lead_of, total_degree};
+ghost use Rattle.git_poly.specs.Degrees.{AreGradedBy, IsHomogeneous, AreApart};
 
+use crate::degrees::first_apart;
 use crate::fault::PolyFault;
 use crate::term::Term;
 use crate::terms::{kept, merged, product_of, scaled, shifted};
 use git_base::NoMemory;
 use git_field::Fp;
+use git_ints::Grading;
 use git_mono::{MONO_DEGREE, Mono};
 use std::alloc::Global;
 use std::marker::Model;
@@ -87,6 +90,19 @@ impl Poly {
     {
         let term = self.terms[i];
         (term.mono, term.number)
+    }
+
+    /// The lead's monomial and the greatest monomial of another degree, or `None` where all monomials
+    /// have one degree, as at 0. In each monomial the exponents are at most 64, and 0 where the grading
+    /// has no column for the variable. It takes no memory.
+    pub fn mixed(&self, g: &Grading) -> Option<(Mono, Mono)>
+        requires { AreGradedBy g.now.columns self.now }
+        ensures none { IsNone result ↔ IsHomogeneous g.now.k g.now.columns self.now }
+        ensures some { IfSome result (λ pair. AreApart g.now.k g.now.columns self.now pair.0 pair.1) }
+    {
+        let lead = self.terms.first()?;
+        let second = first_apart(g, &lead.mono, &self.terms)?;
+        Some((lead.mono, second))
     }
 
     /// Another polynomial that is the same.

@@ -1,8 +1,12 @@
 //! Polynomials worked by hand, in T(1), T(2), T(3) and y.
 
-use crate::{Poly, PolyFault};
+ghost use Rattle.std.specs.Prelude.{IsTrue};
+ghost use Rattle.git_poly.specs.Degrees.{IsGradedBy};
+
+use crate::{Poly, PolyFault, degree_of};
 use git_base::NoMemory;
 use git_field::Fp;
+use git_ints::{Grading, IVec};
 use git_mono::{MONO_DEGREE, Mono};
 use std::alloc::Global;
 use std::test::Fail;
@@ -166,6 +170,65 @@ fn products_stop_at_the_degree_limit(rt: HostRuntime) -> Result<(), Fail> {
     ];
     for (product, fault) in cases {
         assert_eq!(rt; product.err(), fault);
+    }
+    Ok(())
+}
+
+/// Whether a monomial is in the variables of the columns, with exponents of at most 64.
+fn is_graded(g: &Grading, m: &Mono) -> bool
+    ensures { IsTrue result → IsGradedBy g.now.columns m.now }
+{
+    let r = g.r();
+    for i in 0..17 {
+        let exponent = m.exponent(i);
+        if exponent > 64 || (r <= i && exponent != 0) {
+            return false;
+        }
+    }
+    true
+}
+
+/// Where a polynomial in the variables of the columns is mixed.
+fn mixed(g: &Grading, p: &Poly) -> Option<Option<(Mono, Mono)>> {
+    for i in 0..p.term_count() {
+        if !is_graded(g, &p.term_at(i).0) {
+            return None;
+        }
+    }
+    Some(p.mixed(g))
+}
+
+#[test]
+fn degrees_part_monomials(rt: HostRuntime) -> Result<(), Fail> {
+    let alloc = rt.alloc();
+    let columns = [IVec::of(&[1, 0]), IVec::of(&[1, 1]), IVec::of(&[-1, 3])].to_vec(alloc)?;
+    let grading = Grading::of(alloc, 2, columns)?;
+    let product = monomial([5, 4, 2, 0]);
+    assert!(rt; is_graded(&grading, &product));
+    assert_eq!(rt; degree_of(&grading, &product), IVec::of(&[7, 10]));
+    let greatest = monomial([2, 2, 0, 0]);
+    let other = monomial([0, 0, 2, 0]);
+    let cases = [
+        (polynomial(alloc, &[])?, None),
+        (
+            polynomial(alloc, &[([4, 0, 1, 0], 2), ([0, 3, 0, 0], 1)])?,
+            None,
+        ),
+        (
+            polynomial(
+                alloc,
+                &[
+                    ([2, 2, 0, 0], 1),
+                    ([0, 0, 0, 0], 3),
+                    ([0, 0, 2, 0], 1),
+                    ([1, 0, 0, 0], 5),
+                ],
+            )?,
+            Some((greatest, other)),
+        ),
+    ];
+    for (p, expected) in cases {
+        assert_eq!(rt; mixed(&grading, &p), Some(expected));
     }
     Ok(())
 }

@@ -1,0 +1,10 @@
+use Rattle.std.proofs.Common.{◌≡◌, ◌<◌, ◌≤◌, ℕ, length}
+use Rattle.git_algebra.specs.Exponents.{exponent}
+use Rattle.git_poly.proofs.tests.is_graded.Given as goal
+
+abbrev pub invariant-loop-i : goal.invariant-loop-i
+invariant-loop-i l = record {
+  within : l.i ≤ 17;
+  small : (j : ℕ) → j < l.i → exponent l.m j ≤ 64;
+  none_past : (j : ℕ) → j < l.i → length l.g.columns ≤ j → exponent l.m j ≡ 0;
+}
