@@ -1,5 +1,5 @@
 -- The operations of polynomials, each as the form of a sum, and what is read of one.
-use Rattle.std.specs.Prelude.{ℕ, max, Option, Some, None, [], ◌∷◌, ◌++◌, filter}
+use Rattle.std.specs.Prelude.{ℕ, max, Option, Some, None, [], ◌∷◌, ◌++◌, filter, All, IsTrue}
 use Rattle.git_algebra.specs.Exponents.{Exponents, one, degree, in_face}
 use Rattle.git_algebra.specs.Sums.{Sum, shift, product, unit}
 use Rattle.git_algebra.specs.Polynomials.{Polynomial, normal}
@@ -37,6 +37,10 @@ multiplied p q = normal (product p.terms q.terms)
 -- p with every variable outside a face set to 0
 unfoldable pub restricted : ℕ → Polynomial → Polynomial
 restricted mask p = normal (filter (λ t. in_face mask t.0) p.terms)
+
+-- each variable of each monomial of p is in a face
+abbrev pub IsInFace : ℕ → Polynomial → Type 0
+IsInFace mask p = All (λ t. IsTrue (in_face mask t.0)) p.terms
 
 -- the first term
 abbrev pub first_term : Sum → Option (Exponents × ℕ)

@@ -1,6 +1,6 @@
 -- The terms of a sum whose variables are all in a face.
-use Rattle.std.proofs.Common.{zero, suc, ℕ, ◌+◌, ◌<◌, ◌≤◌, ◌≡◌, ◌≢◌, refl, [], ◌∷◌, ◌++◌, sym, ap, ◌∙◌, arith, Bool, true, false, cond, inl, inr, append-nil}
-use Rattle.std.specs.Prelude.{◌==◌, ◌||◌, ◌&&◌, ◌/◌, ◌%◌, ◌^◌, filter}
+use Rattle.std.proofs.Common.{zero, suc, ℕ, ◌+◌, ◌<◌, ◌≤◌, ◌≡◌, ◌≢◌, refl, List, [], ◌∷◌, ◌++◌, length, get_or, sym, ap, ◌∙◌, subst, arith, Bool, true, false, cond, inl, inr, append-nil}
+use Rattle.std.specs.Prelude.{◌==◌, ◌||◌, ◌&&◌, ◌/◌, ◌%◌, ◌^◌, filter, All}
 use Rattle.std.specs.List.{list_all, range_with_len}
 use Rattle.std.proofs.lemmas.Bool.{cases_eq, ne_eqb}
 use Rattle.git_algebra.specs.Exponents.{Exponents, exponent, in_face}
@@ -8,7 +8,8 @@ use Rattle.git_algebra.specs.Order.{rank}
 use Rattle.git_algebra.specs.Sums.{Sum}
 use Rattle.git_algebra.specs.Polynomials.{Proper, RanksBelow}
 use Rattle.git_algebra.proofs.Congruence.{alike_refl}
-use Rattle.git_poly.specs.Terms.{IsForm}
+use Rattle.git_poly.specs.declared.term.Term.{Term}
+use Rattle.git_poly.specs.Terms.{sum_of, IsForm}
 
 -- whether the exponent at a place is 0 or the place is in the face
 abbrev pub place_in_face : ℕ → Exponents → ℕ → Bool
@@ -76,3 +77,14 @@ with_kept false p t = p
 pub kept_once : (mask : ℕ) (p : Sum) (t : Exponents × ℕ) (b : Bool) → in_face mask t.0 ≡ b → filter (λ s. in_face mask s.0) (p ++ t ∷ []) ≡ with_kept b (filter (λ s. in_face mask s.0) p) t
 kept_once mask p t true e = kept_more mask p t ∙ (λ i. filter (λ s. in_face mask s.0) p ++ cond (e i) (t ∷ []) [])
 kept_once mask p t false e = kept_more mask p t ∙ (λ i. filter (λ s. in_face mask s.0) p ++ cond (e i) (t ∷ []) []) ∙ append-nil (filter (λ s. in_face mask s.0) p)
+
+-- what holds of each monomial of a list of terms holds of each of its sum
+pub all_terms : (P : Exponents → Type 0) (ts : List Term) → ((j : ℕ) (d : Term) → j < length ts → P (get_or ts j d).mono) → All (λ t. P t.0) (sum_of ts)
+all_terms P [] each k d lt = absurd (omega arith)
+all_terms P (t ∷ ts) each zero d lt = each 0 t (omega arith)
+all_terms P (t ∷ ts) each (suc k) d lt = all_terms P ts (λ j e h. each (suc j) e (omega arith)) k d (omega arith)
+
+pub each_term : (P : Exponents → Type 0) (ts : List Term) → All (λ t. P t.0) (sum_of ts) → (i : ℕ) (x : Term) → x ≡ get_or ts i x → i < length ts → P x.mono
+each_term P [] all i x e h = absurd (omega arith)
+each_term P (t ∷ ts) all zero x e h = subst (λ (y : Term). P y.mono) (sym e) (all 0 (t.mono, t.number) (omega arith))
+each_term P (t ∷ ts) all (suc i) x e h = each_term P ts (λ k d lt. all (suc k) d (omega arith)) i x e (omega arith)

@@ -3,13 +3,13 @@
 ghost use Rattle.std.specs.Prelude.{◌≡◌, ◌≢◌, ◌+◌, ◌<◌, ◌≤◌, ◌↔◌, IsNone, IsTrue, IfOk, IfSome, Some, length, slice_get};
 ghost use Rattle.git_algebra.specs.Exponents.{degree};
 ghost use Rattle.git_algebra.specs.Sums.{coefficient};
-ghost use Rattle.git_algebra.specs.Operations.{zero_polynomial, term_of, plus, minus, scaled as multiple, times_term, multiplied, restricted, lead_of, total_degree};
+ghost use Rattle.git_algebra.specs.Operations.{zero_polynomial, term_of, plus, minus, scaled as multiple, times_term, multiplied, restricted, IsInFace, lead_of, total_degree};
 ghost use Rattle.git_poly.specs.Degrees.{AreGradedBy, IsHomogeneous, AreApart};
 
 use crate::degrees::first_apart;
 use crate::fault::PolyFault;
 use crate::term::Term;
-use crate::terms::{kept, merged, product_of, scaled, shifted};
+use crate::terms::{are_in_face, kept, merged, product_of, scaled, shifted};
 use git_base::NoMemory;
 use git_field::Fp;
 use git_ints::Grading;
@@ -147,7 +147,7 @@ impl Poly {
     pub fn restrict(&self, alloc: Global, mask: u16) -> Result<Poly, NoMemory>
         ensures { IfOk result (λ p. p ≡ restricted mask self.now) }
     {
-        let terms = kept(alloc, mask, &self.terms)?;
+        let terms = kept(alloc, u32::from(mask), &self.terms)?;
         Ok(Poly { terms })
     }
 
@@ -183,15 +183,23 @@ impl Poly {
         Ok(Poly { terms })
     }
 
+    /// Whether each variable of each monomial is in a face, where bit `i` of the mask is for the variable at place `i`, and
+    /// bit 16 for the extra variable.
+    pub fn is_in_face(&self, mask: u32) -> bool
+        ensures { IsTrue result ↔ IsInFace mask self.now }
+    {
+        are_in_face(mask, &self.terms)
+    }
+
     /// Whether this is 0.
-    fn is_zero(&self) -> bool
+    pub fn is_zero(&self) -> bool
         ensures { IsTrue result ↔ (self.now ≡ zero_polynomial) }
     {
         self.terms.is_empty()
     }
 
     /// The total degree, 0 at 0.
-    fn total_degree(&self) -> u32
+    pub fn total_degree(&self) -> u32
         ensures same { result ≡ total_degree self.now }
         ensures limit { result ≤ MONO_DEGREE }
     {

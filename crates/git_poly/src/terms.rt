@@ -1,6 +1,6 @@
 //! Lists of terms in descending order: the work behind the operations of polynomials.
 
-ghost use Rattle.std.specs.Prelude.{◌≡◌, ◌≢◌, ◌+◌, ◌<◌, ◌≤◌, ◌++◌, IfOk, filter};
+ghost use Rattle.std.specs.Prelude.{◌≡◌, ◌≢◌, ◌+◌, ◌<◌, ◌≤◌, ◌++◌, ◌↔◌, All, IfOk, IsTrue, filter};
 ghost use Rattle.git_algebra.specs.Exponents.{one, degree, in_face};
 ghost use Rattle.git_algebra.specs.Sums.{shift, product};
 ghost use Rattle.git_algebra.specs.Polynomials.{Proper};
@@ -108,25 +108,38 @@ pub fn product_of(alloc: Global, a: &[Term], b: &[Term]) -> Result<Vec<Term>, No
 }
 
 /// The terms of a list whose variables are all in a face.
-pub fn kept(alloc: Global, mask: u16, a: &[Term]) -> Result<Vec<Term>, NoMemory>
+pub fn kept(alloc: Global, mask: u32, a: &[Term]) -> Result<Vec<Term>, NoMemory>
     requires { Proper (sum_of a.now) }
     ensures { IfOk result (λ v. IsForm (sum_of v.items) (filter (λ t. in_face mask t.0) (sum_of a.now))) }
 {
     let mut out = Vec::new(alloc);
     for t in a {
-        if is_in_face(&t.mono, mask) {
+        if is_in_face(mask, &t.mono) {
             out.push(*t)?;
         }
     }
     Ok(out)
 }
 
-/// Whether each variable of a monomial is in a face. No mask holds the extra variable.
-fn is_in_face(m: &Mono, mask: u16) -> bool
+/// Whether each variable of each monomial of a list is in a face. Bit `i` of the mask is for the variable at place `i`, and
+/// bit 16 for the extra variable.
+pub(crate) fn are_in_face(mask: u32, a: &[Term]) -> bool
+    ensures { IsTrue result ↔ All (λ t. IsTrue (in_face mask t.0)) (sum_of a.now) }
+{
+    for t in a {
+        if !is_in_face(mask, &t.mono) {
+            return false;
+        }
+    }
+    true
+}
+
+/// Whether each variable of a monomial is in a face.
+fn is_in_face(mask: u32, m: &Mono) -> bool
     ensures { result ≡ in_face mask m.now }
 {
     for i in 0..17 {
-        if m.exponent(i) != 0 && (u32::from(mask) >> i) % 2 == 0 {
+        if m.exponent(i) != 0 && (mask >> i) % 2 == 0 {
             return false;
         }
     }

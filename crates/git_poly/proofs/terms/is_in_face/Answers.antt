@@ -3,8 +3,8 @@ use Rattle.git_algebra.specs.Exponents.{exponent}
 use Rattle.git_poly.proofs.Faces.{is_in_face, is_outside, place_outside}
 use Rattle.git_poly.proofs.terms.is_in_face.Goals as goal
 
-pub returns-then-from-i-eq0 : goal.returns-then-from-i-eq0
-returns-then-from-i-eq0 c =
+pub returns-then-mask-i-eq0 : goal.returns-then-mask-i-eq0
+returns-then-mask-i-eq0 c =
     let some : exponent c.args.m.now c.loop-i.i ≢ 0 = λ e. c.if-exponent-ne0.true (c.exponent.ensures ∙ e) in
     let none : (c.args.mask / 2 ^ c.loop-i.i) % 2 ≡ 0 = search rules in
     sym (is_outside c.args.mask c.args.m.now c.loop-i.i (omega arith) (place_outside c.args.mask c.args.m.now c.loop-i.i some none))
