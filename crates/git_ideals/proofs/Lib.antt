@@ -1,0 +1,9 @@
+pub mod SumIdeals
+pub mod Criterion
+pub mod Reductions
+pub mod ExtraExponents
+pub mod ExtraVariable
+pub mod Cancelling
+pub mod Membership
+pub mod Conversions
+pub mod SPolynomials

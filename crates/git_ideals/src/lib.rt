@@ -1,0 +1,2 @@
+//! Ideals of polynomials: definitions alone, with their laws.
+#![tactic(auto)]
