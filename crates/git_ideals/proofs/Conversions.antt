@@ -16,11 +16,11 @@ abbrev pub terms_of : List Polynomial → List Sum
 terms_of [] = []
 terms_of (p ∷ ps) = p.terms ∷ terms_of ps
 
-zero_alike : Alike zero_polynomial.terms []
+pub zero_alike : Alike zero_polynomial.terms []
 unfolding zero_polynomial
 zero_alike = normal_alike []
 
-plus_alike : (p q : Polynomial) → Alike (plus p q).terms (p.terms ++ q.terms)
+pub plus_alike : (p q : Polynomial) → Alike (plus p q).terms (p.terms ++ q.terms)
 unfolding plus
 plus_alike p q = normal_alike (p.terms ++ q.terms)
 

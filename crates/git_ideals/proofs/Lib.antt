@@ -7,3 +7,6 @@ pub mod Cancelling
 pub mod Membership
 pub mod Conversions
 pub mod SPolynomials
+pub mod Divisions
+pub mod Buchberger
+pub mod FaceProofs

@@ -109,7 +109,7 @@ raised_once m p q r t e h k =
     ∙ times_term-mod k.factor h.number k.number p (same_number h.number k.number t.1 1 u.0 u.1 a.monic b.monic)
     ∙ sym k.multiple
 
-same_lead : (p : Polynomial) (t u : Exponents × ℕ) → lead_of p ≡ Some t → lead_of p ≡ Some u → t ≡ u
+pub same_lead : (p : Polynomial) (t u : Exponents × ℕ) → lead_of p ≡ Some t → lead_of p ≡ Some u → t ≡ u
 same_lead p t u a b = let two : Some t ≡ Some u = sym a ∙ b in cc
 
 pub one_s_polynomial : (f g s t : Polynomial) → IsSPolynomial f g s → IsSPolynomial f g t → s ≡ t

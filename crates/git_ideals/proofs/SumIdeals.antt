@@ -1,4 +1,4 @@
--- Membership in an ideal: cofactors whose products with the generators sum to the element.
+-- Ideals of sums: cofactors whose products with the generators sum to the element, up to the values of sums.
 use Rattle.std.specs.Prelude.{ℕ, ◌≡◌, refl, List, [], ◌∷◌, ◌++◌, map}
 use Rattle.std.proofs.Common.{arith}
 use Rattle.git_algebra.specs.Exponents.{Exponents}
@@ -79,10 +79,10 @@ ideal_here f fs = record { cofactors = unit ∷ []; sums = alike_trans (alike_ni
 pub ideal_there : (f : Sum) (fs : List Sum) {p : Sum} → SumInIdeal fs p → SumInIdeal (f ∷ fs) p
 ideal_there f fs h = record { cofactors = [] ∷ h.cofactors; sums = h.sums }
 
-all_there : (g f : Sum) (gs fs : List Sum) → AllSumsIn gs fs → AllSumsIn (g ∷ gs) fs
-all_there g f gs [] all = tt
-all_there g f gs (k ∷ fs) all = (ideal_there g gs all.0, all_there g f gs fs all.1)
+pub all_there : (g : Sum) (gs fs : List Sum) → AllSumsIn gs fs → AllSumsIn (g ∷ gs) fs
+all_there g gs [] all = tt
+all_there g gs (k ∷ fs) all = (ideal_there g gs all.0, all_there g gs fs all.1)
 
 pub all_self : (fs : List Sum) → AllSumsIn fs fs
 all_self [] = tt
-all_self (f ∷ fs) = (ideal_here f fs, all_there f f fs fs (all_self fs))
+all_self (f ∷ fs) = (ideal_here f fs, all_there f fs fs (all_self fs))

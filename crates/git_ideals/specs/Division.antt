@@ -1,5 +1,5 @@
 -- Division by a list of members: as long as some member's lead divides the lead, the first such member takes it away.
-use Rattle.std.specs.Prelude.{ℕ, ◌*◌, ◌%◌, ◌<◌, ◌≡◌, ◌==◌, if◌then◌else◌, List, [], ◌∷◌, length, map, Some}
+use Rattle.std.specs.Prelude.{ℕ, ◌*◌, ◌%◌, ◌<◌, ◌≡◌, ◌≢◌, ◌==◌, if◌then◌else◌, List, [], ◌∷◌, length, map, Some, All}
 use Rattle.std.specs.List.{range_with_len}
 use Rattle.std.proofs.Common.{get_or}
 use Rattle.git_algebra.specs.Exponents.{Exponents, times, lcm, Divides}
@@ -86,3 +86,16 @@ pub record IsSPolynomial (f g s : Polynomial) : Type 0 where
   pub first_is : IsRaised (lcm lead.0 other.0) f first
   pub second_is : IsRaised (lcm lead.0 other.0) g second
   pub difference : s ≡ minus first second
+
+-- each member is other than 0
+abbrev pub AreNonzero : List Polynomial → Type 0
+AreNonzero members = All (λ g. g ≢ zero_polynomial) members
+
+-- the S-polynomial of each pair of members divides to rest 0
+abbrev pub PairsDivide : List Polynomial → Type 0
+PairsDivide members = (i j : ℕ) → i < j → j < length members → (s : Polynomial) → IsSPolynomial (member members i) (member members j) s → DividesToZero members s
+
+-- the lead of some member divides m
+pub record SomeLeadDivides (members : List Polynomial) (m : Exponents) : Type 0 where
+  pub place : ℕ
+  pub divides : LeadDivides (member members place) m

@@ -1,10 +1,10 @@
 -- A-faces, and what shows that a face is one or none.
-use Rattle.std.specs.Prelude.{ℕ, ◌<◌, ◌≡◌, ◌/◌, ◌%◌, ◌^◌, ◌==◌, if◌then◌else◌, List, length, map, Some, None, All, IsTrue}
+use Rattle.std.specs.Prelude.{ℕ, ◌≡◌, ◌≢◌, ◌/◌, ◌%◌, ◌^◌, ◌==◌, if◌then◌else◌, List, map, Some, All, IsTrue}
 use Rattle.git_algebra.specs.Exponents.{Exponents, exponents_by, one, power, in_face}
 use Rattle.git_algebra.specs.Polynomials.{Polynomial}
 use Rattle.git_algebra.specs.Operations.{lead_of, restricted}
 use Rattle.git_ideals.specs.Ideals.{combination, monomial, clearing}
-use Rattle.git_ideals.specs.Division.{member, DividesToZero, IsSPolynomial}
+use Rattle.git_ideals.specs.Division.{DividesToZero, AreNonzero, PairsDivide}
 
 -- p is in the face's variables
 abbrev pub IsInFace : ℕ → Polynomial → Type 0
@@ -27,8 +27,8 @@ pub record IsMonomialProof (generators : List Polynomial) (mask exponent : ℕ) 
 
 -- members with leads other than 1, by which the restricted generators, the clearing polynomial and the S-polynomials of pairs divide to rest 0
 pub record IsFreeProof (generators : List Polynomial) (mask : ℕ) (members : List Polynomial) : Type 0 where
-  pub nonzero : All (λ g. lead_of g ≡ None → ⊥) members
-  pub no_unit : All (λ g. (c : ℕ) → lead_of g ≡ Some (one, c) → ⊥) members
+  pub nonzero : AreNonzero members
+  pub no_unit : All (λ g. (c : ℕ) → lead_of g ≢ Some (one, c)) members
   pub generators_divide : All (λ f. DividesToZero members (restricted mask f)) generators
   pub clearing_divides : DividesToZero members (clearing (face_monomial mask))
-  pub pairs_divide : (i j : ℕ) → i < j → j < length members → (s : Polynomial) → IsSPolynomial (member members i) (member members j) s → DividesToZero members s
+  pub pairs_divide : PairsDivide members
