@@ -1,0 +1,12 @@
+pub mod SumIdeals
+pub mod Criterion
+pub mod Reductions
+pub mod ExtraExponents
+pub mod ExtraVariable
+pub mod Cancelling
+pub mod Membership
+pub mod Conversions
+pub mod SPolynomials
+pub mod Divisions
+pub mod Buchberger
+pub mod FaceProofs

@@ -1,0 +1,4 @@
+pub mod Ideals
+pub mod Division
+pub mod Faces
+pub mod Laws
