@@ -2,13 +2,9 @@
 use Rattle.std.specs.Prelude.{ℕ, ◌≡◌, ◌≢◌, ◌/◌, ◌%◌, ◌^◌, ◌==◌, if◌then◌else◌, List, map, Some, All, IsTrue}
 use Rattle.git_algebra.specs.Exponents.{Exponents, exponents_by, one, power, in_face}
 use Rattle.git_algebra.specs.Polynomials.{Polynomial}
-use Rattle.git_algebra.specs.Operations.{lead_of, restricted}
+use Rattle.git_algebra.specs.Operations.{lead_of, restricted, IsInFace}
 use Rattle.git_ideals.specs.Ideals.{combination, monomial, clearing}
 use Rattle.git_ideals.specs.Division.{DividesToZero, AreNonzero, PairsDivide}
-
--- p is in the face's variables
-abbrev pub IsInFace : ℕ → Polynomial → Type 0
-IsInFace mask p = All (λ t. IsTrue (in_face mask t.0)) p.terms
 
 -- the product of the face's variables
 unfoldable pub face_monomial : ℕ → Exponents
