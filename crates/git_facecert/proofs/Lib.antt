@@ -1,0 +1,5 @@
+pub mod Showing
+pub mod AnswerOnce
+pub mod FacePowers
+pub mod Firsts
+pub mod Combinations
