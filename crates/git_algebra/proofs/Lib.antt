@@ -8,3 +8,4 @@ pub mod Ring
 pub mod Coefficients
 pub mod Restriction
 pub mod Products
+pub mod Every

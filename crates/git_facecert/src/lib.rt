@@ -4,11 +4,14 @@
 //! an accepted certificate tells the truth is a law of this crate.
 #![tactic(auto)]
 
+mod accept;
 mod certificate;
 mod face;
+mod free;
 mod laws;
 mod monomial;
 
+pub use accept::accept_for;
 pub use certificate::{Accepted, FaceCert, FaceVerdict, Place};
 pub use laws::{
     accepted_free_certificates_show_a_faces, accepted_monomial_certificates_show_none,

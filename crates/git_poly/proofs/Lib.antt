@@ -7,3 +7,4 @@ pub mod Searching
 pub mod Closing
 pub mod Grading
 pub mod Parting
+pub mod Ending

@@ -1,7 +1,8 @@
 //! Polynomials.
 
-ghost use Rattle.std.specs.Prelude.{◌≡◌, ◌≢◌, ◌+◌, ◌<◌, ◌≤◌, ◌↔◌, IsNone, IsTrue, IfOk, IfSome, Some, length, slice_get};
+ghost use Rattle.std.specs.Prelude.{◌≡◌, ◌≢◌, ◌+◌, ◌<◌, ◌≤◌, ◌↔◌, All, IsNone, IsTrue, IfOk, IfSome, OnErr, OnOk, Some, length, slice_get};
 ghost use Rattle.git_algebra.specs.Exponents.{degree};
+ghost use Rattle.git_algebra.specs.Order.{rank};
 ghost use Rattle.git_algebra.specs.Sums.{coefficient};
 ghost use Rattle.git_algebra.specs.Operations.{zero_polynomial, term_of, plus, minus, scaled as multiple, times_term, multiplied, restricted, IsInFace, lead_of, total_degree};
 ghost use Rattle.git_poly.specs.Degrees.{AreGradedBy, IsHomogeneous, AreApart};
@@ -189,6 +190,30 @@ impl Poly {
         ensures { IsTrue result ↔ IsInFace mask self.now }
     {
         are_in_face(mask, &self.terms)
+    }
+
+    /// This less a term times another, `self - c m o`. `Degree` comes where both factors are nonzero
+    /// and the sum of their total degrees is above `MONO_DEGREE`.
+    pub fn minus_times(&self, alloc: Global, m: &Mono, c: Fp, o: &Poly) -> Result<Poly, PolyFault>
+        ensures difference { IfOk result (λ p. p ≡ minus self.now (times_term m.now c o.now)) }
+        ensures degree { (result ≡ Err PolyFault.Degree) ↔ ((c ≢ 0) × (o.now ≢ zero_polynomial) × (MONO_DEGREE < degree m.now + total_degree o.now)) }
+    {
+        let product = o.times_term(alloc, m, c.neg())?;
+        let terms = merged(alloc, &self.terms, &product.terms)?;
+        Ok(Poly { terms })
+    }
+
+    /// Adds a term at the end, whose monomial is below each other one. Nothing changes where the
+    /// number is 0.
+    pub fn append(&mut self, m: Mono, c: Fp) -> Result<(), NoMemory>
+        requires { All (λ t. rank m < rank t.0) self.old.terms }
+        ensures sum { OnOk result (self.new ≡ plus self.old (term_of m c)) }
+        ensures same { OnErr result (self.new ≡ self.old) }
+    {
+        if c.value() > 0 {
+            self.terms.push(Term { mono: m, number: c })?;
+        }
+        Ok(())
     }
 
     /// Whether this is 0.

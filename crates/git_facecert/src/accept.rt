@@ -1,0 +1,34 @@
+//! The check of a certificate.
+ghost use Rattle.std.specs.Prelude.{◌≤◌, ◌<◌, ◌^◌, IfOk, All, length};
+ghost use Rattle.git_algebra.specs.Operations.{total_degree};
+ghost use Rattle.git_facecert.specs.Answers.{IsAnswer, IsOfFewLines};
+
+use crate::certificate::{Accepted, FaceCert};
+use crate::free::accept_free;
+use crate::monomial::accept_monomial;
+use git_base::NoMemory;
+use git_poly::Poly;
+use std::alloc::Global;
+
+/// Whether a certificate of the face is accepted for these generators, or the place of its first line that fails.
+///
+/// The mask has bit `i` for the variable at place `i`. There are fewer than 2^32 generators, each of total degree at
+/// most 2^25, and fewer than 2^32 cofactors or members.
+pub fn accept_for(
+    alloc: Global,
+    generators: &[Poly],
+    mask: u16,
+    cert: &FaceCert,
+) -> Result<Accepted, NoMemory>
+    requires few { IsOfFewLines cert.now }
+    requires few_generators { length generators.now < 2 ^ 32 }
+    requires generators { All (λ f. total_degree f ≤ 2 ^ 25) generators.now }
+    ensures { IfOk result (λ a. IsAnswer generators.now mask cert.now a) }
+{
+    match cert {
+        FaceCert::Monomial { power, cofactors } => {
+            accept_monomial(alloc, generators, mask, *power, cofactors)
+        }
+        FaceCert::Free { basis } => accept_free(alloc, generators, mask, basis),
+    }
+}

@@ -1,0 +1,2 @@
+pub mod TermMaps
+pub mod Dividing
