@@ -3,3 +3,4 @@ pub mod AnswerOnce
 pub mod FacePowers
 pub mod Firsts
 pub mod Combinations
+pub mod Pairs

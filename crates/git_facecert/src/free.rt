@@ -18,14 +18,13 @@ use std::alloc::Global;
 fn is_member(mask: u16, g: &Poly) -> bool
     ensures { IsTrue result ↔ IsMember mask g.now }
 {
-    match g.lead() {
-        None => false,
-        Some(lead) => {
-            lead.0 != Mono::one()
-                && g.is_in_face(u32::from(mask) + 65536)
-                && g.total_degree() <= CERT_DEGREE
-        }
+    let Some(lead) = g.lead() else {
+        return false;
+    };
+    if lead.0 == Mono::one() {
+        return false;
     }
+    g.is_in_face(u32::from(mask) + 65536) && g.total_degree() <= CERT_DEGREE
 }
 
 /// The number, from 1, of the first that is no member.
