@@ -1,2 +1,3 @@
 pub mod TermMaps
 pub mod Dividing
+pub mod Raising

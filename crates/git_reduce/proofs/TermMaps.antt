@@ -1,5 +1,5 @@
 -- The terms of a map: one more, the greatest, and all of them in descending order.
-use Rattle.std.proofs.Common.{All, zero, suc, ℕ, ◌+◌, ◌-◌, ◌*◌, ◌%◌, ◌<◌, ◌≤◌, ◌≡◌, ◌≢◌, refl, List, [], ◌∷◌, ◌++◌, length, take, Option, Some, None, Bool, true, false, cond, sym, ◌∙◌, ap, subst, arith, unwrap_or, slice_get}
+use Rattle.std.proofs.Common.{All, zero, suc, ℕ, ◌+◌, ◌-◌, ◌*◌, ◌%◌, ◌<◌, ◌≤◌, ◌≡◌, refl, [], ◌∷◌, ◌++◌, length, take, Some, None, Bool, true, false, cond, sym, ◌∙◌, ap, subst, arith, unwrap_or, slice_get}
 use Rattle.std.proofs.Math.Nat.{mod-mod, mul_assoc}
 use Rattle.std.specs.List.{AllByRecursion}
 use Rattle.std.specs.List.Sorted.{IsStrictlySortedBy}
@@ -13,14 +13,14 @@ use Rattle.std.proofs.lemmas.List.{take_more, take_all}
 use Rattle.std.proofs.lemmas.Option.{slice_get_within, get_or_from_slice_get}
 use Rattle.git_algebra.specs.Exponents.{Exponents, times, degree}
 use Rattle.git_algebra.specs.Order.{rank}
-use Rattle.git_algebra.specs.Sums.{Sum, value, shift, at as at_monomial, coefficient, Mod, Alike}
-use Rattle.git_algebra.specs.Polynomials.{Polynomial, RanksBelow, ranks_more, normal}
+use Rattle.git_algebra.specs.Sums.{Sum, value, shift, coefficient, Mod, Alike}
+use Rattle.git_algebra.specs.Polynomials.{Polynomial, RanksBelow, normal}
 use Rattle.git_algebra.specs.Operations.{zero_polynomial, term_of, plus, minus, times_term, lead_of, greatest_degree}
 use Rattle.git_algebra.proofs.Ranks.{rank_injective}
 use Rattle.git_algebra.proofs.Values.{value-append, value-shift}
-use Rattle.git_algebra.proofs.Congruence.{mod_refl, mod_is, mod_sym, mod_trans, mod_add, mod_mul, alike_refl, alike_sym, alike_trans, alike-append}
-use Rattle.git_algebra.proofs.Leads.{Lead, at_same, at_other}
-use Rattle.git_algebra.proofs.Normal.{value_past, normal_alike, same_from_alike, same_normal}
+use Rattle.git_algebra.proofs.Congruence.{mod_refl, mod_is, mod_sym, mod_trans, mod_add, mod_mul, alike_refl, alike_sym, alike_trans}
+use Rattle.git_algebra.proofs.Leads.{at_same, at_other}
+use Rattle.git_algebra.proofs.Normal.{value_past, normal_alike, same_from_alike}
 use Rattle.git_algebra.proofs.Products.{lead_of-normal}
 use Rattle.git_algebra.proofs.Every.{Every, every-append, every-normal, all_from_every}
 use Rattle.git_ideals.proofs.Cancelling.{less_values}

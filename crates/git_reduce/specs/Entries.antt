@@ -1,5 +1,5 @@
 -- The entries of a map of terms.
-use Rattle.std.specs.Prelude.{ℕ, ◌<◌, [], ◌∷◌}
+use Rattle.std.specs.Prelude.{◌<◌, [], ◌∷◌}
 use Rattle.git_algebra.specs.Sums.{Sum}
 
 -- each number is from 1 to 32002

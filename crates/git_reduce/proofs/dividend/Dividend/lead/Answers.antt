@@ -1,4 +1,4 @@
-use Rattle.std.proofs.Common.{sym, subst, arith, suc, length, slice_get, ◌≡◌, ◌-◌, ℕ, Some, Option, Bor}
+use Rattle.std.proofs.Common.{sym, subst, arith, length, slice_get, ◌≡◌, ◌-◌, ℕ, Some, Option, Bor}
 use Rattle.std.specs.Prelude.{IfSome}
 use Rattle.git_algebra.specs.Exponents.{Exponents}
 use Rattle.git_algebra.specs.Operations.{lead_of}
