@@ -9,3 +9,7 @@ pub mod Wedges
 pub mod PlaneRanks
 pub mod Ends
 pub mod PlaneGradings
+pub mod Walks
+pub mod Tables
+pub mod OneSided
+pub mod Judged
