@@ -1,0 +1,6 @@
+pub mod Pieces
+pub mod Terms
+pub mod Reading
+pub mod Grammar
+pub mod Printing
+pub mod Laws
