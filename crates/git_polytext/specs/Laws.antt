@@ -12,13 +12,13 @@ use Rattle.git_polytext.specs.Printing.{polynomial_text}
 abbrev pub LinesReadAreLines : Type 0
 LinesReadAreLines = (r line : ℕ) (content : List ℕ) (p : Polynomial) → polynomial_line r line content ≡ Ok p → IsPolynomialLine r content p
 
--- the value that a line has in the grammar is read of it
+-- the value that a line has in the grammar is read of it, where there are at most sixteen variables
 abbrev pub LinesAreRead : Type 0
-LinesAreRead = (r line : ℕ) (content : List ℕ) (p : Polynomial) → IsPolynomialLine r content p → polynomial_line r line content ≡ Ok p
+LinesAreRead = (r line : ℕ) (content : List ℕ) (p : Polynomial) → r ≤ 16 → IsPolynomialLine r content p → polynomial_line r line content ≡ Ok p
 
 -- a line has one value at most
 abbrev pub LinesHaveOneValue : Type 0
-LinesHaveOneValue = (r : ℕ) (content : List ℕ) (p q : Polynomial) → IsPolynomialLine r content p → IsPolynomialLine r content q → p ≡ q
+LinesHaveOneValue = (r : ℕ) (content : List ℕ) (p q : Polynomial) → r ≤ 16 → IsPolynomialLine r content p → IsPolynomialLine r content q → p ≡ q
 
 -- the monomials of a line are ones in its variables, with exponents of at most 64
 abbrev pub LinesAreGraded : Type 0
