@@ -6,3 +6,4 @@ pub mod ExactTerms
 pub mod ExactLines
 pub mod Graded
 pub mod Halves
+pub mod PrintLoops

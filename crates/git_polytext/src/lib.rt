@@ -3,10 +3,12 @@
 
 mod fault;
 mod laws;
+mod printing;
 mod reading;
 mod signs;
 mod terms;
 
 pub use fault::PolynomialFault;
 pub use laws::{lines_are_graded, lines_are_read, lines_have_one_value, lines_read_are_lines};
+pub use printing::{append_poly, print_poly};
 pub use reading::read_polynomial;
