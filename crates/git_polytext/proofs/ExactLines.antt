@@ -1,12 +1,10 @@
 -- What reading takes of a line is what the grammar says.
-use Rattle.std.proofs.Common.{◌≡◌, ℕ, ◌+◌, ◌≤◌, ◌<◌, Bool, true, false, List, [], ◌∷◌, length, Result, Ok, Err, refl, sym, ap, ◌∙◌, subst, arith}
+use Rattle.std.proofs.Common.{◌≡◌, ℕ, ◌+◌, ◌≤◌, ◌<◌, false, List, [], ◌∷◌, length, Result, Ok, Err, refl, sym, ap, ◌∙◌, subst, arith}
 use Rattle.std.specs.Prelude.{nat_le, MatchResult, IfOk}
 use Rattle.std.proofs.lemmas.Bool.Decides.{nat_tests}
-use Rattle.git_lines.specs.Reading.{◌>>=◌}
 use Rattle.git_lines.specs.Parts.{Part}
 use Rattle.git_lines.specs.Grammar.{Together}
 use Rattle.git_lines.proofs.Exact.{bind_ok, ok_is}
-use Rattle.git_algebra.specs.Exponents.{Exponents}
 use Rattle.git_algebra.specs.Sums.{Sum}
 use Rattle.git_algebra.specs.Polynomials.{Polynomial, normal}
 use Rattle.git_polytext.specs.declared.fault.PolynomialFault.{PolynomialFault}

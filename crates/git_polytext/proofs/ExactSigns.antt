@@ -1,5 +1,5 @@
 -- What reading takes of a power of a variable is what the grammar says.
-use Rattle.std.proofs.Common.{◌≡◌, ℕ, zero, suc, ◌+◌, ◌-◌, ◌<◌, ◌≤◌, Bool, true, false, cond, List, [], ◌∷◌, ◌++◌, length, map, ◌&&◌, Option, Some, None, Result, Ok, Err, refl, sym, ap, ◌∙◌, subst, arith}
+use Rattle.std.proofs.Common.{◌≡◌, ℕ, ◌+◌, ◌-◌, ◌<◌, ◌≤◌, Bool, true, false, cond, List, [], ◌∷◌, length, ◌&&◌, Option, Some, None, Result, Ok, Err, refl, sym, ap, ◌∙◌, subst, arith}
 use Rattle.std.specs.Prelude.{codes, nat_le}
 use Rattle.std.specs.List.{list_all}
 use Rattle.std.specs.Str.{bytes_eq}
@@ -8,17 +8,17 @@ use Rattle.std.proofs.lemmas.Bool.{and_parts, and_from}
 use Rattle.std.proofs.lemmas.Bool.Decides.{nat_tests}
 use Rattle.git_lines.specs.Tokens.{Token, RestOfLine, next_token, texts}
 use Rattle.git_lines.specs.Numbers.{is_digit, value_of}
-use Rattle.git_lines.specs.Reading.{◌>>=◌, lift, word_token}
+use Rattle.git_lines.specs.Reading.{lift, word_token}
 use Rattle.git_lines.specs.Parts.{Part}
 use Rattle.git_lines.specs.Grammar.{Together}
-use Rattle.git_lines.proofs.Exact.{bind_ok, lift_ok, ok_is, guard_ok, with_tokens, next_takes, next_again, word_takes, word_again, texts_cons, texts_nil}
+use Rattle.git_lines.proofs.Exact.{bind_ok, lift_ok, ok_is, guard_ok, with_tokens, next_takes, next_again, word_takes, word_again, texts_cons}
 use Rattle.git_algebra.specs.Exponents.{Exponents, exponent, times, variable_power}
 use Rattle.git_algebra.proofs.Monomials.{exponent-times, times_assoc, times-one}
 use Rattle.git_polytext.specs.declared.fault.PolynomialFault.{PolynomialFault}
 use Rattle.git_polytext.specs.declared.fault.PolynomialFault.TheVariants.{Form}
 use Rattle.git_polytext.specs.Pieces.{signs}
 use Rattle.git_polytext.specs.Terms.{product_of}
-use Rattle.git_polytext.specs.Reading.{number_in, number_sign, bracket_in, bracket_sign, exponent_in, exponent_sign, nothing_in, no_sign, known, raised, power_signs, power_parts, signs_of}
+use Rattle.git_polytext.specs.Reading.{number_in, number_sign, bracket_in, bracket_sign, exponent_in, exponent_sign, no_sign, known, raised, power_signs, power_parts, signs_of}
 use Rattle.git_polytext.specs.Grammar.{IsNumber, IsExponent, IsPower}
 use Rattle.git_polytext.proofs.Bounds.{exponent_same, raised_small}
 use Rattle.git_polytext.proofs.Columns.{signs_same, part_texts}

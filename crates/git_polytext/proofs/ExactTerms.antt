@@ -1,16 +1,13 @@
 -- What reading takes of a term is what the grammar says.
-use Rattle.std.proofs.Common.{◌≡◌, ℕ, ◌+◌, ◌≤◌, ◌<◌, ◌⊎◌, inl, inr, Bool, true, false, cond, List, [], ◌∷◌, length, map, ◌&&◌, ◌||◌, Option, Some, None, Result, Ok, Err, refl, sym, ap, ◌∙◌, subst, arith}
+use Rattle.std.proofs.Common.{◌≡◌, ℕ, ◌+◌, ◌≤◌, ◌⊎◌, inl, inr, Bool, true, false, cond, List, [], ◌∷◌, map, ◌&&◌, Option, Some, None, Ok, Err, refl, sym, ap, ◌∙◌, subst, arith}
 use Rattle.std.specs.Prelude.{codes, nat_le}
 use Rattle.std.specs.List.{list_all}
-use Rattle.std.specs.Str.{bytes_eq}
 use Rattle.std.proofs.lemmas.Slice.Eq.{bytes_eq-Decides}
 use Rattle.std.proofs.lemmas.Bool.{or_left, or_right}
 use Rattle.git_lines.specs.declared.parts.Separator.TheVariants.{Star}
 use Rattle.git_lines.specs.Tokens.{Token, RestOfLine, next_token, texts}
 use Rattle.git_lines.specs.Numbers.{is_digit}
-use Rattle.git_lines.specs.Reading.{◌>>=◌}
 use Rattle.git_lines.specs.Parts.{Part, parts, separates}
-use Rattle.git_lines.specs.Grammar.{Together}
 use Rattle.git_lines.proofs.Exact.{bind_ok, ok_is, with_tokens, next_takes, next_again, texts_cons, texts_nil}
 use Rattle.git_algebra.specs.Exponents.{Exponents, exponent, one, times, variable_power}
 use Rattle.git_algebra.proofs.Monomials.{one-times, exponent-one, exponent-times}

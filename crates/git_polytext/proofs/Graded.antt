@@ -1,5 +1,5 @@
 -- The monomials of a line are ones in its variables.
-use Rattle.std.proofs.Common.{◌≡◌, ℕ, zero, suc, ◌+◌, ◌%◌, ◌<◌, ◌≤◌, ◌⊎◌, inl, inr, List, [], ◌∷◌, length, get_or, refl, sym, ap, ◌∙◌, subst, arith}
+use Rattle.std.proofs.Common.{◌≡◌, ℕ, zero, suc, ◌+◌, ◌%◌, ◌<◌, ◌≤◌, inl, inr, List, [], ◌∷◌, length, get_or, refl, sym, ap, ◌∙◌, subst, arith}
 use Rattle.std.specs.Prelude.{Contains}
 use Rattle.std.specs.declared.cmp.Ordering.{Ordering}
 use Rattle.std.specs.declared.cmp.Ordering.TheVariants.{Less, Equal, Greater}
@@ -7,7 +7,7 @@ use Rattle.std.specs.Ordering.{nat_cmp}
 use Rattle.git_lines.specs.Grammar.{Together}
 use Rattle.git_lines.specs.Parts.{Part}
 use Rattle.git_defs.specs.Vectors.{Vector}
-use Rattle.git_algebra.specs.Exponents.{Exponents, exponent, times, variable_power}
+use Rattle.git_algebra.specs.Exponents.{Exponents, exponent, variable_power}
 use Rattle.git_algebra.specs.Order.{rank}
 use Rattle.git_algebra.specs.Sums.{Sum}
 use Rattle.git_algebra.specs.Polynomials.{Polynomial, normal, normal_list, entry, put, put_by}

@@ -7,3 +7,9 @@ pub mod ExactLines
 pub mod Graded
 pub mod Halves
 pub mod PrintLoops
+pub mod PowersBack
+pub mod Sizes
+pub mod TextBytes
+pub mod SignTexts
+pub mod PartTexts
+pub mod ReadBack

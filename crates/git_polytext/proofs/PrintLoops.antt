@@ -1,12 +1,12 @@
 -- The text of a polynomial, term by term and factor by factor, as a loop prints it.
-use Rattle.std.proofs.Common.{◌≡◌, ◌≢◌, ℕ, zero, suc, ◌+◌, ◌<◌, ◌≤◌, ◌==◌, Bool, true, false, List, [], ◌∷◌, ◌++◌, length, get_or, drop, map, refl, sym, ap, ◌∙◌, subst, append_assoc, append-nil, add-one, arith, Some, cond}
+use Rattle.std.proofs.Common.{◌≡◌, ◌≢◌, ℕ, zero, suc, ◌+◌, ◌<◌, ◌≤◌, ◌==◌, Bool, true, false, List, [], ◌∷◌, ◌++◌, length, drop, map, refl, sym, ap, ◌∙◌, append_assoc, append-nil, add-one, arith, Some}
 use Rattle.std.specs.Prelude.{codes, if◌then◌else◌, slice_get}
 use Rattle.std.proofs.lemmas.Bool.{ne_eqb}
 use Rattle.std.proofs.Math.Seq.{drop-cons}
 use Rattle.git_algebra.specs.Exponents.{Exponents, exponent}
 use Rattle.git_algebra.specs.Sums.{Sum}
 use Rattle.git_algebra.specs.Polynomials.{Polynomial}
-use Rattle.git_polytext.specs.Printing.{after_stars, starred, joined, power_text, powers_from, sign_text, term_text, signed_terms, terms_text, polynomial_text}
+use Rattle.git_polytext.specs.Printing.{joined, power_text, powers_from, sign_text, term_text, signed_terms, terms_text, polynomial_text}
 
 -- ---- the factors of a term
 

@@ -1,5 +1,5 @@
 -- The terms of a line, and the factors of a term, one after the other, as a loop reads them.
-use Rattle.std.proofs.Common.{◌≡◌, ℕ, suc, ◌+◌, List, [], ◌∷◌, ◌++◌, length, length-append, Result, Ok, Err, refl, sym, ap, ◌∙◌, append_assoc, append-nil, arith}
+use Rattle.std.proofs.Common.{◌≡◌, ℕ, ◌+◌, List, [], ◌∷◌, ◌++◌, length, length-append, Result, Ok, Err, refl, sym, ap, ◌∙◌, append_assoc, append-nil}
 use Rattle.git_lines.specs.Parts.{Part}
 use Rattle.git_lines.specs.Reading.{◌>>=◌}
 use Rattle.git_algebra.specs.Exponents.{Exponents}

@@ -1,4 +1,4 @@
-use Rattle.std.proofs.Common.{arith, sym, ap, ◌∙◌}
+use Rattle.std.proofs.Common.{arith, ap, ◌∙◌}
 use Rattle.std.specs.String.{string_bytes}
 use Rattle.git_polytext.proofs.PrintLoops.{power_skipped, power_printed}
 use Rattle.git_polytext.proofs.printing.push_powers.Goals as goal

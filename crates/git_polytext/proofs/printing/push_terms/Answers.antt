@@ -1,7 +1,5 @@
-use Rattle.std.proofs.Common.{◌≡◌, ◌++◌, sym, ap, ◌∙◌, arith, rules}
-use Rattle.std.specs.String.{string_bytes}
-use Rattle.git_polytext.specs.Printing.{polynomial_text}
-use Rattle.git_polytext.proofs.PrintLoops.{term_printed, terms_begin, terms_printed, none_printed}
+use Rattle.std.proofs.Common.{sym, ◌∙◌, arith, rules}
+use Rattle.git_polytext.proofs.PrintLoops.{term_printed, terms_printed, none_printed}
 use Rattle.git_polytext.proofs.printing.push_terms.Goals as goal
 
 pub loop-i-preserved : goal.loop-i-preserved

@@ -1,8 +1,8 @@
-use Rattle.std.proofs.Common.{◌≡◌, ◌-◌, ◌/◌, List, length, take, drop, sym, ap, ◌∙◌, rules, subst}
+use Rattle.std.proofs.Common.{◌≡◌, ◌/◌, List, length, sym, ◌∙◌, subst}
 use Rattle.std.proofs.lemmas.Bool.{eqb-true}
 use Rattle.std.proofs.lemmas.List.{take_rest}
 use Rattle.std.proofs.lemmas.Result.{IfOk-weaker}
-use Rattle.git_algebra.specs.Polynomials.{Polynomial, normal}
+use Rattle.git_algebra.specs.Polynomials.{normal}
 use Rattle.git_polytext.specs.declared.terms.Term.{Term}
 use Rattle.git_polytext.specs.Views.{sum_of}
 use Rattle.git_polytext.proofs.Halves.{none_summed, one_summed, both_summed}
