@@ -1,5 +1,5 @@
 -- The grammar of the line of a polynomial: which bytes stand for which value.
-use Rattle.std.specs.Prelude.{◌≡◌, ℕ, ◌-◌, ◌≤◌, ◌⊎◌, true, if◌then◌else◌, Option, List, [], ◌∷◌, length, map, codes}
+use Rattle.std.specs.Prelude.{◌≡◌, ℕ, ◌-◌, ◌≤◌, ◌⊎◌, true, List, [], ◌∷◌, length, map, codes}
 use Rattle.std.specs.List.{list_all}
 use Rattle.git_lines.specs.declared.parts.Separator.TheVariants.{Star}
 use Rattle.git_lines.specs.Grammar.{Together}

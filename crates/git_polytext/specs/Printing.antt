@@ -1,5 +1,5 @@
 -- The text of a polynomial.
-use Rattle.std.specs.Prelude.{ℕ, zero, suc, ◌+◌, ◌==◌, ◌&&◌, not, if◌then◌else◌, Bool, List, [], ◌∷◌, ◌++◌, map, codes, pos, int_lt, unsigned_abs}
+use Rattle.std.specs.Prelude.{ℕ, zero, suc, ◌+◌, ◌==◌, ◌&&◌, not, if◌then◌else◌, Bool, true, false, List, [], ◌∷◌, ◌++◌, map, codes, pos, int_lt, unsigned_abs}
 use Rattle.std.specs.Fmt.{decimal}
 use Rattle.git_field.specs.Field.{signed_of}
 use Rattle.git_algebra.specs.Exponents.{Exponents, degree}
@@ -15,6 +15,10 @@ after_stars (t ∷ ts) = 42 ∷ t ++ after_stars ts
 abbrev pub starred : List (List ℕ) → List ℕ
 starred [] = []
 starred (t ∷ ts) = t ++ after_stars ts
+
+-- what goes on with a star, or begins
+abbrev pub joined : Bool → List (List ℕ) → List ℕ
+joined begun ts = if begun then after_stars ts else starred ts
 
 -- the variables of a monomial whose exponents are given from a place on: each by its place and its exponent, which is not 0
 abbrev pub powers_from : ℕ → List ℕ → List (ℕ × ℕ)
@@ -45,14 +49,18 @@ is_negative c = int_lt (signed_of c) (pos 0)
 abbrev pub term_text : Exponents × ℕ → List ℕ
 term_text t = starred (factor_texts (unsigned_abs (signed_of t.1)) t.0)
 
--- the terms after the first, each with its sign
-abbrev pub later_terms : Sum → List ℕ
-later_terms [] = []
-later_terms (t ∷ ts) = (if is_negative t.1 then codes "-" else codes "+") ++ term_text t ++ later_terms ts
+-- the sign before a term: a minus, or a plus where the term is not the first
+abbrev pub sign_text : Bool → ℕ → List ℕ
+sign_text first c = if is_negative c then codes "-" else if first then [] else codes "+"
+
+-- terms with their signs, from the first on or from a later one
+abbrev pub signed_terms : Bool → Sum → List ℕ
+signed_terms first [] = []
+signed_terms first (t ∷ ts) = sign_text first t.1 ++ term_text t ++ signed_terms false ts
 
 abbrev pub terms_text : Sum → List ℕ
 terms_text [] = codes "0"
-terms_text (t ∷ ts) = (if is_negative t.1 then codes "-" else []) ++ term_text t ++ later_terms ts
+terms_text (t ∷ ts) = signed_terms true (t ∷ ts)
 
 -- the terms in descending order; 0 for the polynomial 0
 unfoldable pub polynomial_text : Polynomial → List ℕ

@@ -2,7 +2,6 @@
 use Rattle.std.specs.Prelude.{◌≡◌, ℕ, ◌+◌, ◌-◌, ◌&&◌, ◌||◌, nat_le, Bool, true, false, if◌then◌else◌, List, [], ◌∷◌, length, codes, Option, Some, None, Result, Ok, Err}
 use Rattle.std.specs.List.{list_all}
 use Rattle.std.specs.Str.{bytes_eq}
-use Rattle.git_lines.specs.declared.fault.FormFault.{FormFault}
 use Rattle.git_lines.specs.declared.fault.FormKind.{FormKind}
 use Rattle.git_lines.specs.declared.fault.FormKind.TheVariants.{Range, Syntax}
 use Rattle.git_lines.specs.declared.parts.Separator.TheVariants.{Star}

@@ -6,6 +6,7 @@ mod laws;
 mod printing;
 mod reading;
 mod signs;
+mod terms;
 
 pub use fault::PolynomialFault;
 pub use laws::{

@@ -5,9 +5,21 @@ ghost use Rattle.git_polytext.specs.Grammar.{IsPolynomialLine};
 ghost use Rattle.git_polytext.specs.Reading.{GivesUnlessFull, polynomial_line};
 
 use crate::fault::PolynomialFault;
+use crate::terms::{pieces, sum_of_terms, terms};
 use git_lines::Line;
 use git_poly::Poly;
 use std::alloc::Global;
+
+#[tactic(auto, unfolding(crate::specs::Reading::polynomial_line, crate::specs::Reading::terms_line))]
+fn read_line(alloc: Global, line: &Line<'_>, r: usize) -> Result<Poly, PolynomialFault>
+    requires { r ≤ 16 }
+    ensures { GivesUnlessFull (λ p. p) result (polynomial_line r line.now.number line.now.text.now) }
+{
+    let mut parts = pieces(line.text);
+    let terms = terms(alloc, r, line.number, &mut parts)?;
+    let sum = sum_of_terms(alloc, &terms)?;
+    Ok(sum)
+}
 
 /// The polynomial of a line, where there are the variables `T(1)` to `T(r)`, or the first fault with its place.
 ///

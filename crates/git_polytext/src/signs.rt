@@ -94,13 +94,7 @@ fn check_known(r: usize, line: u32, column: u32, index: u64) -> Result<(), Polyn
 }
 
 /// The monomial of a term times one power more.
-fn raise(
-    line: u32,
-    start: u32,
-    m: &Mono,
-    place: usize,
-    e: u64,
-) -> Result<Mono, PolynomialFault>
+fn raise(line: u32, start: u32, m: &Mono, place: usize, e: u64) -> Result<Mono, PolynomialFault>
     requires place { place < 17 }
     requires exponent { e < 10 ^ 18 }
     requires small { (i : ℕ) → exponent m.now i ≤ 64 }
