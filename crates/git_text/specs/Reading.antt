@@ -188,3 +188,11 @@ pub record Reads (bytes : List ℕ) (read : Result InputValue InputFault) : Type
 -- the first fault of the bytes: its line, its column and its kind
 abbrev pub IsFirstFault : List ℕ → ℕ → ℕ → BadKind → Type 0
 IsFirstFault bytes line column kind = Reads bytes (Err (Bad line column kind))
+
+abbrev pub second_size : Result ((ℕ × ℕ) × RestOfText) FormFault → ℕ
+second_size (Ok sizes) = sizes.0.1
+second_size (Err fault) = 0
+
+-- the number of variables that the second line announces, or 0
+abbrev pub variables_in : List ℕ → ℕ
+variables_in bytes = second_size (sizes_at (whole_text bytes))

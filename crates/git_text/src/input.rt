@@ -1,13 +1,13 @@
 //! The whole text.
-ghost use Rattle.std.specs.Prelude.{◌≡◌, ◌<◌, ◌-◌, ◌^◌, ◌⊎◌, ℕ, length, IfOk, IsErrOf, MatchResult};
+ghost use Rattle.std.specs.Prelude.{◌≡◌, ◌<◌, ◌≤◌, ◌-◌, ◌^◌, ◌⊎◌, ℕ, length, IfOk, IsErrOf, MatchResult};
 ghost use Rattle.git_lines.specs.Views.{rest_of_text};
 ghost use Rattle.git_text.specs.declared.fault.BadKind.{BadKind};
 ghost use Rattle.git_text.specs.Faults.{GivesUnlessFull, FitsUnlessFull};
 ghost use Rattle.git_text.specs.Grammar.{InputValue, IsInput};
-ghost use Rattle.git_text.specs.Reading.{rest_at, ReadsFront, Reads, IsFirstFault};
+ghost use Rattle.git_text.specs.Reading.{rest_at, ReadsFront, Reads, IsFirstFault, variables_in};
 
 use crate::fault::InputFault;
-use crate::fields::end;
+use crate::fields::{end, header_and_sizes};
 use crate::generators::generators;
 use crate::matrix::grading;
 use git_ints::Grading;
@@ -67,6 +67,21 @@ fn read_lines(alloc: Global, bytes: &[u8]) -> Result<Input, InputFault>
     let input = front(alloc, &mut lines)?;
     lines.no_line()?;
     Ok(input)
+}
+
+/// The number of variables that the second line of a text announces, or 0 where the first two lines are not right.
+///
+/// `bytes` are fewer than 2^32 - 1.
+pub fn announced_variables(bytes: &[u8]) -> usize
+    requires { length bytes.now < 2 ^ 32 - 1 }
+    ensures value { result ≡ variables_in bytes.now }
+    ensures few { result ≤ 16 }
+{
+    let mut lines = Lines::new(bytes);
+    match header_and_sizes(&mut lines) {
+        Ok(sizes) => sizes.1,
+        Err(_) => 0,
+    }
 }
 
 /// The input that the bytes are.

@@ -12,8 +12,11 @@ mod matrix;
 mod rows;
 
 pub use fault::{BadKind, InputFault};
-pub use input::{Input, read_input};
+pub use input::{Input, announced_variables, read_input};
 pub use laws::{
     input_or_first_fault, inputs_have_no_fault, monomials_apart_are_found, one_first_fault,
     one_input, reading_is_the_grammar,
 };
+
+#[cfg(test)]
+mod tests;
