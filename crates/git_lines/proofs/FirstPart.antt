@@ -1,5 +1,6 @@
 -- The first part of a text, from where it ends.
 use Rattle.std.proofs.Common.{◌≡◌, ℕ, zero, suc, ◌+◌, ◌<◌, Bool, true, false, cond, List, [], ◌∷◌, length, get_or, take, drop, Option, Some, refl, ◌∙◌, ap, arith}
+use Rattle.std.specs.Prelude.{IsTrue, ◌↔◌, not}
 use Rattle.std.proofs.lemmas.List.{take_all}
 use Rattle.git_lines.specs.Parts.{Part, grown_part, parts_by, parts_left}
 
@@ -53,3 +54,8 @@ some_after ends separator column b bytes (q, qs, e) false = (_, _, ap (grown_par
 pub some_part : (ends : ℕ → Bool) (separator : Option ℕ) (column : ℕ) (bytes : List ℕ) → (p : Part) × (ps : List Part) × (parts_by ends separator column bytes ≡ p ∷ ps)
 some_part ends separator column [] = (_, _, refl)
 some_part ends separator column (b ∷ bytes) = some_after ends separator column b bytes (some_part ends separator (column + 1) bytes) (ends b)
+
+-- none is left where there is no more
+pub empty_is : (more : Bool) (ends : ℕ → Bool) (separator : Option ℕ) (column : ℕ) (bytes : List ℕ) (ps : List Part) → ps ≡ parts_left more ends separator column bytes → IsTrue (not more) ↔ (ps ≡ [])
+empty_is true ends separator column bytes ps e = (λ h. absurd (cc h), λ n. let s = some_part ends separator column bytes in let some : ps ≡ s.0 ∷ s.1 = e ∙ s.2 in absurd (cc (some, n)))
+empty_is false ends separator column bytes ps e = (λ h. e, λ n. refl)

@@ -4,7 +4,7 @@ ghost use Rattle.std.specs.List.{list_all};
 ghost use Rattle.git_lines.specs.Numbers.{is_digit, natural, natural_once, integer, integer_once, has_no_leading_zero};
 
 /// The value of at most eighteen digits.
-fn value_of(digits: &[u8]) -> u64
+pub fn value_of(digits: &[u8]) -> u64
     requires digits { list_all is_digit digits.now ≡ true }
     requires few { length digits.now ≤ 18 }
     ensures value { result ≡ Rattle.git_lines.specs.Numbers.value_of digits.now }
@@ -18,7 +18,7 @@ fn value_of(digits: &[u8]) -> u64
 }
 
 /// Whether all bytes are digits.
-fn are_digits(bytes: &[u8]) -> bool
+pub fn are_digits(bytes: &[u8]) -> bool
     ensures { result ≡ list_all is_digit bytes.now }
 {
     bytes.iter().all(|b| b.is_ascii_digit())

@@ -1,5 +1,5 @@
 //! A text, part by part between separators.
-ghost use Rattle.std.specs.Prelude.{◌≡◌, ◌+◌, ◌<◌, ◌≤◌, ◌^◌, ℕ, true, false, [], ◌∷◌, length, slice_index, IfSome, IfNone};
+ghost use Rattle.std.specs.Prelude.{◌≡◌, ◌+◌, ◌<◌, ◌≤◌, ◌^◌, ℕ, true, false, [], ◌∷◌, length, slice_index, IfSome, IfNone, IsTrue, ◌↔◌};
 ghost use Rattle.git_lines.specs.Parts.{parts, separates};
 
 use std::marker::Model;
@@ -83,6 +83,13 @@ impl<'a> Parts<'a> {
             column,
             rest: text,
         }
+    }
+
+    /// Whether no part is left.
+    pub fn is_empty(&self) -> bool
+        ensures { IsTrue result ↔ (self.now ≡ []) }
+    {
+        !self.more
     }
 
     /// The next part.

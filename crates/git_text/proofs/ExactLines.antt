@@ -8,9 +8,10 @@ use Rattle.std.proofs.lemmas.List.{append-nil}
 use Rattle.git_lines.specs.Tokens.{rest_of_line, texts, words}
 use Rattle.git_lines.specs.Reading.{times, word_token, integer_token, no_token}
 use Rattle.git_lines.specs.Grammar.{Together, IsInteger}
-use Rattle.git_lines.proofs.Exact.{bind_ok, ok_is, with_tokens, word_takes, word_again, none_takes, none_again, integer_takes, integer_again, integers, times_take, times_again, texts_cons, texts_nil, together_texts, together_tokens, ReadsLine}
+use Rattle.git_lines.proofs.Exact.{bind_ok, lift_ok, ok_is, with_tokens, word_takes, word_again, none_takes, none_again, integer_takes, integer_again, integers, times_take, times_again, texts_cons, texts_nil, together_texts, together_tokens, ReadsLine}
 use Rattle.git_text.specs.Grammar.{IsHeader, IsSizes, IsRow, IsIdeal, IsEnd}
-use Rattle.git_text.specs.Reading.{header_line, sizes_line, row_line, ideal_line, end_line}
+use Rattle.git_text.specs.Faults.{form_bad, as_input}
+use Rattle.git_text.specs.Reading.{header_words, as_header, header_line, sizes_line, row_line, ideal_line, end_line}
 
 -- ---- integers that are not negative
 
@@ -31,9 +32,9 @@ natural_is low high token z l i = subst (λ y. IsInteger low high token y) (sym 
 
 -- ---- the lines
 
-pub header_reads : ReadsLine header_line (λ l u. IsHeader l)
-unfolding header_line
-header_reads = record {
+header_words_read : ReadsLine header_words (λ l u. IsHeader l)
+unfolding header_words
+header_words_read = record {
   takes = λ n l u e.
       let a = bind_ok (word_token (codes "gitfan") (rest_of_line n l)) _ u e in
       let b = bind_ok (word_token (codes "1") a.0) _ u a.2 in
@@ -47,6 +48,13 @@ header_reads = record {
       let b = texts_cons _ _ _ a.4 in
       let z = texts_nil _ b.4 in
       rw (word_again (codes "gitfan") rest a.0 a.1 a.2 a.3, word_again (codes "1") (with_tokens rest a.1) b.0 b.1 b.2 b.3) (none_again (with_tokens rest b.1) z);
+}
+
+pub header_reads : ReadsLine header_line (λ l u. IsHeader l)
+unfolding header_line
+header_reads = record {
+  takes = λ n l u e. header_words_read.takes n l u (lift_ok (as_header n) (header_words n l) u e);
+  again = λ n l u h. rw (header_words_read.again n l u h) refl;
 }
 
 pub sizes_reads : ReadsLine sizes_line (λ l s. IsSizes l s.0 s.1)
@@ -86,11 +94,11 @@ pub row_reads : (r : ℕ) → ReadsLine (row_line r) (IsRow r)
 unfolding row_line
 row_reads r = record {
   takes = λ n l zs e.
-      let a = bind_ok (times (integer_token (neg_ℤ (pos 1000)) (pos 1000)) r (rest_of_line n l)) _ zs e in
-      let b = bind_ok (no_token a.0.1) _ zs a.2 in
+      let a = bind_ok (as_input (times (integer_token (neg_ℤ (pos 1000)) (pos 1000)) r (rest_of_line n l))) _ zs e in
+      let b = bind_ok (as_input (no_token a.0.1)) _ zs a.2 in
       let p = ok_is a.0.0 zs b.2 in
-      let t = times_take _ _ _ (integers (neg_ℤ (pos 1000)) (pos 1000)) r (rest_of_line n l) a.0.1 a.0.0 a.1 in
-      let all : (rest_of_line n l).tokens ≡ t.0 = t.1 ∙ ap (λ ts. t.0 ++ ts) (none_takes a.0.1 b.1) ∙ append-nil t.0 in
+      let t = times_take _ _ _ (integers (neg_ℤ (pos 1000)) (pos 1000)) r (rest_of_line n l) a.0.1 a.0.0 (lift_ok form_bad _ _ a.1) in
+      let all : (rest_of_line n l).tokens ≡ t.0 = t.1 ∙ ap (λ ts. t.0 ++ ts) (none_takes a.0.1 (lift_ok form_bad _ _ b.1)) ∙ append-nil t.0 in
       let entries : Together (IsInteger (neg_ℤ (pos 1000)) (pos 1000)) (words l) a.0.0 = subst (λ ts. Together (IsInteger (neg_ℤ (pos 1000)) (pos 1000)) (texts ts) a.0.0) (sym all) (together_texts _ t.0 a.0.0 t.2) in
       subst (λ q. IsRow r l q) p (record { entries = entries; size = t.3 });
   again = λ n l zs h.

@@ -4,15 +4,20 @@ use Rattle.git_defs.specs.Vectors.{Vector}
 use Rattle.git_lines.specs.declared.fault.FormFault.{FormFault}
 use Rattle.git_lines.specs.Lines.{RestOfText, content, contents}
 use Rattle.git_lines.specs.Reading.{next_line, nothing_at, no_line}
+use Rattle.git_text.specs.declared.fault.InputFault.{InputFault}
+use Rattle.git_text.specs.Faults.{form_bad}
 use Rattle.git_lines.specs.Grammar.{Together}
 use Rattle.git_lines.proofs.Exact.{bind_ok, times_take, times_again, Steps, ReadsLine, line_steps, lines_next}
 use Rattle.git_text.specs.Grammar.{IsHeader, IsSizes, IsRow, IsIdeal, IsEnd}
-use Rattle.git_text.specs.Reading.{header_line, ideal_line, end_line, next_by, sizes_at, rows_at, end_at}
+use Rattle.git_text.specs.Reading.{header_line, ideal_line, end_line, form_by, next_by, sizes_at, rows_at}
 use Rattle.git_text.proofs.ExactLines.{header_reads, sizes_reads, row_reads, ideal_reads, end_reads}
 
 -- a line read whole
-next_steps : {A : Type 0} (read : ℕ → List ℕ → Result A FormFault) (P : List ℕ → A → Type 0) → ReadsLine read P → Steps (next_by read) contents P
-next_steps read P reads = line_steps next_line contents (λ f. f) read P lines_next reads
+form_steps : {A : Type 0} (read : ℕ → List ℕ → Result A FormFault) (P : List ℕ → A → Type 0) → ReadsLine read P → Steps (form_by read) contents P
+form_steps read P reads = line_steps next_line contents (λ f. f) read P lines_next reads
+
+pub next_steps : {A : Type 0} (read : ℕ → List ℕ → Result A InputFault) (P : List ℕ → A → Type 0) → ReadsLine read P → Steps (next_by read) contents P
+next_steps read P reads = line_steps next_line contents form_bad read P lines_next reads
 
 -- ---- the two lines before the rows
 
@@ -26,17 +31,17 @@ pub record Begins (s after : RestOfText) (k r : ℕ) : Type 0 where
 pub sizes_take : (s after : RestOfText) (k r : ℕ) → sizes_at s ≡ Ok ((k, r), after) → Begins s after k r
 unfolding sizes_at
 sizes_take s after k r e =
-    let h = bind_ok (next_by header_line s) _ ((k, r), after) e in
-    let th = (next_steps _ _ header_reads).takes s h.0.1 h.0.0 h.1 in
-    let ts = (next_steps _ _ sizes_reads).takes h.0.1 after (k, r) h.2 in
+    let h = bind_ok (form_by header_line s) _ ((k, r), after) e in
+    let th = (form_steps _ _ header_reads).takes s h.0.1 h.0.0 h.1 in
+    let ts = (form_steps _ _ sizes_reads).takes h.0.1 after (k, r) h.2 in
     record { header = th.0; sizes = ts.0; lines = th.1 ∙ ap (λ l. th.0 ∷ l) ts.1; header_is = th.2; sizes_are = ts.2 }
 
 pub sizes_again : (s : RestOfText) (header sizes : List ℕ) (rest : List (List ℕ)) (k r : ℕ) → contents s ≡ header ∷ sizes ∷ rest → IsHeader header → IsSizes sizes k r
     → (after : RestOfText) × (sizes_at s ≡ Ok ((k, r), after)) × (contents after ≡ rest)
 unfolding sizes_at
 sizes_again s header sizes rest k r e hi si =
-    let h = (next_steps _ _ header_reads).again s header (sizes ∷ rest) tt e hi in
-    let z = (next_steps _ _ sizes_reads).again h.0 sizes rest (k, r) h.2 si in
+    let h = (form_steps _ _ header_reads).again s header (sizes ∷ rest) tt e hi in
+    let z = (form_steps _ _ sizes_reads).again h.0 sizes rest (k, r) h.2 si in
     (z.0, rw (h.1, z.1) refl, z.2)
 
 -- ---- the rows
@@ -60,14 +65,23 @@ rows_again s rows rest k r values e rows_are all_rows =
 
 -- ---- the number of generators
 
-pub ideal_take : (s after : RestOfText) (m : ℕ) → next_by ideal_line s ≡ Ok (m, after) → (line : List ℕ) × (contents s ≡ line ∷ contents after) × IsIdeal line m
-ideal_take s after m e = (next_steps _ _ ideal_reads).takes s after m e
+pub ideal_take : (s after : RestOfText) (m : ℕ) → form_by ideal_line s ≡ Ok (m, after) → (line : List ℕ) × (contents s ≡ line ∷ contents after) × IsIdeal line m
+ideal_take s after m e = (form_steps _ _ ideal_reads).takes s after m e
 
 pub ideal_again : (s : RestOfText) (line : List ℕ) (rest : List (List ℕ)) (m : ℕ) → contents s ≡ line ∷ rest → IsIdeal line m
-    → (after : RestOfText) × (next_by ideal_line s ≡ Ok (m, after)) × (contents after ≡ rest)
-ideal_again s line rest m e h = (next_steps _ _ ideal_reads).again s line rest m e h
+    → (after : RestOfText) × (form_by ideal_line s ≡ Ok (m, after)) × (contents after ≡ rest)
+ideal_again s line rest m e h = (form_steps _ _ ideal_reads).again s line rest m e h
 
 -- ---- the end
+
+pub end_take : (s after : RestOfText) (u : Unit {0}) → form_by end_line s ≡ Ok (u, after) → (line : List ℕ) × (contents s ≡ line ∷ contents after) × IsEnd line
+end_take s after u e = (form_steps _ _ end_reads).takes s after u e
+
+pub end_again : (s : RestOfText) (line : List ℕ) (rest : List (List ℕ)) → contents s ≡ line ∷ rest → IsEnd line
+    → (after : RestOfText) × (form_by end_line s ≡ Ok (tt, after)) × (contents after ≡ rest)
+end_again s line rest e h = (form_steps _ _ end_reads).again s line rest tt e h
+
+-- ---- nothing after it
 
 nothing_takes : (line : ℕ) (ls : List (List ℕ)) (u : Unit {0}) → nothing_at line ls ≡ Ok u → map content ls ≡ []
 nothing_takes line [] u e = refl
@@ -77,15 +91,10 @@ nothing_again : (line : ℕ) (ls : List (List ℕ)) → map content ls ≡ [] �
 nothing_again line [] e = refl
 nothing_again line (l ∷ ls) e = absurd (cc e)
 
-pub end_take : (s : RestOfText) → end_at s ≡ Ok tt → (line : List ℕ) × (contents s ≡ line ∷ []) × IsEnd line
-unfolding end_at no_line
-end_take s e =
-    let d = bind_ok (next_by end_line s) _ tt e in
-    let td = (next_steps _ _ end_reads).takes s d.0.1 d.0.0 d.1 in
-    (td.0, td.1 ∙ ap (λ l. td.0 ∷ l) (nothing_takes d.0.1.line d.0.1.lines tt d.2), td.2)
+pub none_left : (s : RestOfText) (u : Unit {0}) → no_line s ≡ Ok u → contents s ≡ []
+unfolding no_line
+none_left s u e = nothing_takes s.line s.lines u e
 
-pub end_again : (s : RestOfText) (line : List ℕ) → contents s ≡ line ∷ [] → IsEnd line → end_at s ≡ Ok tt
-unfolding end_at no_line
-end_again s line e h =
-    let d = (next_steps _ _ end_reads).again s line [] tt e h in
-    rw d.1 (nothing_again d.0.line d.0.lines d.2)
+pub none_again : (s : RestOfText) → contents s ≡ [] → no_line s ≡ Ok tt
+unfolding no_line
+none_again s e = nothing_again s.line s.lines e

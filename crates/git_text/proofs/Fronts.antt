@@ -1,110 +1,152 @@
--- The lines up to the last row: what is read of them is the one matrix that the grammar gives.
-use Rattle.std.proofs.Common.{◌≡◌, ◌≢◌, ℕ, List, ◌∷◌, ◌++◌, length, Result, Ok, Err, IfOk, refl, sym, ap, ◌∙◌, subst}
+-- The lines up to the last row: reading is the grammar, and what is read and judged is one.
+use Rattle.std.proofs.Common.{◌≡◌, ℕ, ◌≤◌, List, ◌∷◌, ◌++◌, length, Result, Ok, Err, refl, sym, ap, ◌∙◌, subst, arith}
+use Rattle.std.specs.Prelude.{pos}
+use Rattle.std.proofs.lemmas.Int.{ints}
 use Rattle.std.proofs.lemmas.List.FromFn.{length-map-range_with_len}
-use Rattle.git_defs.specs.Vectors.{Vector, HasRank, HasZeroSum}
-use Rattle.git_ints.specs.Gradings.{Degrees, IsGrading}
-use Rattle.git_lines.specs.declared.fault.FormFault.{FormFault}
+use Rattle.git_defs.specs.Vectors.{Vector, AllOfLength, HasRank, HasZeroSum}
+use Rattle.git_ints.specs.Gradings.{Degrees}
 use Rattle.git_lines.specs.Lines.{RestOfText, contents}
-use Rattle.git_lines.proofs.Exact.{ok_is}
+use Rattle.git_lines.specs.Reading.{◌>>=◌}
+use Rattle.git_lines.specs.Grammar.{IsInteger}
+use Rattle.git_lines.proofs.Exact.{bind_ok, lift_ok, ok_is}
 use Rattle.git_text.specs.declared.fault.InputFault.{InputFault}
-use Rattle.git_text.specs.Grammar.{column_of, columns_of, IsMatrixText, HasOtherRank}
-use Rattle.git_text.specs.Reading.{sizes_at, rows_at}
+use Rattle.git_text.specs.Faults.{form_bad, as_input}
+use Rattle.git_text.specs.Grammar.{column_of, columns_of, IsMatrixText}
+use Rattle.git_text.specs.Reading.{Verdict, IsVerdict, judged_by, sizes_at, rows_at, columns_at, matrix_at, JudgesMatrix, JudgesGrading, JudgesRead, ReadsGrading}
+use Rattle.git_text.specs.Reading.Verdict.{grades, low_rank, unpointed}
 use Rattle.git_text.proofs.ExactText.{sizes_take, sizes_again, rows_take, rows_again}
+use Rattle.git_text.proofs.Matrices.{lengths_are}
 
--- a matrix of the grammar is read
-pub record IsRead (s : RestOfText) (rest : List (List ℕ)) (d : Degrees) : Type 0 where
-  pub between : RestOfText
-  pub after : RestOfText
-  pub values : List Vector
-  pub sizes : sizes_at s ≡ Ok ((d.k, length d.columns), between)
-  pub rows : rows_at d.k (length d.columns) between ≡ Ok (values, after)
-  pub left : contents after ≡ rest
-  pub columns : d.columns ≡ columns_of (length d.columns) values
+-- ---- a matrix of the grammar is read
 
-pub front_again : (s : RestOfText) (front rest : List (List ℕ)) (d : Degrees) → contents s ≡ front ++ rest → IsMatrixText front d → IsRead s rest d
-front_again s front rest d e m =
+columns_again : (s after : RestOfText) (k r : ℕ) (values : List Vector) → rows_at k r s ≡ Ok (values, after) → columns_at k r s ≡ Ok (columns_of r values, after)
+unfolding columns_at
+columns_again s after k r values e = rw e refl
+
+matrix_from : (s between after : RestOfText) (k r : ℕ) (columns : List Vector) → sizes_at s ≡ Ok ((k, r), between) → columns_at k r between ≡ Ok (columns, after)
+    → matrix_at s ≡ Ok (record { k = k; columns = columns }, after)
+unfolding matrix_at
+matrix_from s between after k r columns e f = rw (e, f) refl
+
+pub matrix_again : (s : RestOfText) (front rest : List (List ℕ)) (d : Degrees) → contents s ≡ front ++ rest → IsMatrixText front d
+    → (after : RestOfText) × (matrix_at s ≡ Ok (d, after)) × (contents after ≡ rest)
+matrix_again s front rest d e m =
     let lines : contents s ≡ m.header ∷ m.sizes ∷ m.rows ++ rest = e ∙ ap (λ l. l ++ rest) m.lines in
     let z = sizes_again s m.header m.sizes (m.rows ++ rest) d.k (length d.columns) lines m.header_is m.sizes_are in
     let w = rows_again z.0 m.rows rest d.k (length d.columns) m.values z.2 m.rows_are m.all_rows in
-    record { between = z.0; after = w.0; values = m.values; sizes = z.1; rows = w.1; left = w.2; columns = m.columns_are }
+    let c = columns_again z.0 w.0 d.k (length d.columns) m.values w.1 in
+    let all = matrix_from s z.0 w.0 d.k (length d.columns) (columns_of (length d.columns) m.values) z.1 c in
+    (w.0, all ∙ ap (λ (columns : List Vector). Ok (record { k = d.k; columns = columns }, w.0)) (sym m.columns_are), w.2)
 
--- what is read is a matrix of the grammar
-pub front_taken : (s between after : RestOfText) (k r : ℕ) (values : List Vector) (d : Degrees)
-    → sizes_at s ≡ Ok ((k, r), between) → rows_at k r between ≡ Ok (values, after) → d.k ≡ k → d.columns ≡ columns_of r values → IsGrading k (columns_of r values)
-    → (front : List (List ℕ)) × (contents s ≡ front ++ contents after) × IsMatrixText front d
-front_taken s between after k r values d sizes rows k_is columns_are g =
+-- ---- what is read is a matrix of the grammar
+
+columns_take : (s after : RestOfText) (k r : ℕ) (columns : List Vector) → columns_at k r s ≡ Ok (columns, after) → (values : List Vector) × (rows_at k r s ≡ Ok (values, after)) × (columns ≡ columns_of r values)
+unfolding columns_at
+columns_take s after k r columns e =
+    let a = bind_ok (rows_at k r s) _ (columns, after) e in
+    let p = ok_is (columns_of r a.0.0, a.0.1) (columns, after) a.2 in
+    (a.0.0, a.1 ∙ ap (λ (q : List Vector × RestOfText). Ok (a.0.0, q.1)) p, sym (ap (λ (q : List Vector × RestOfText). q.0) p))
+
+taken : (s between after : RestOfText) (k r : ℕ) (columns values : List Vector) → sizes_at s ≡ Ok ((k, r), between) → rows_at k r between ≡ Ok (values, after) → columns ≡ columns_of r values
+    → HasRank k columns → (HasZeroSum k columns → ⊥) → (front : List (List ℕ)) × (contents s ≡ front ++ contents after) × IsMatrixText front (record { k = k; columns = columns })
+taken s between after k r columns values sizes rows is rank pointed =
     let z = sizes_take s between k r sizes in
     let w = rows_take between after k r values rows in
-    let size : length (columns_of r values) ≡ r = length-map-range_with_len (column_of values) 0 r in
-    let same : record { k = k; columns = columns_of r values } ≡ d = λ i. record { k = sym k_is i; columns = sym columns_are i } in
-    let made : IsMatrixText (z.header ∷ z.sizes ∷ w.rows) (record { k = k; columns = columns_of r values }) = record {
-      header = z.header;
-      sizes = z.sizes;
-      rows = w.rows;
-      values = values;
-      lines = refl;
-      header_is = z.header_is;
-      sizes_are = rw size z.sizes_are;
-      rows_are = rw size w.rows_are;
-      all_rows = w.all_rows;
-      columns_are = rw size refl;
-      rank = g.rank;
-      pointed = g.pointed;
-    } in
-    (z.header ∷ z.sizes ∷ w.rows, z.lines ∙ ap (λ l. z.header ∷ z.sizes ∷ l) w.lines, subst (λ d. IsMatrixText (z.header ∷ z.sizes ∷ w.rows) d) same made)
+    let size : length columns ≡ r = ap length is ∙ length-map-range_with_len (column_of values) 0 r in (
+      z.header ∷ z.sizes ∷ w.rows,
+      z.lines ∙ ap (λ l. z.header ∷ z.sizes ∷ l) w.lines,
+      record {
+        header = z.header;
+        sizes = z.sizes;
+        rows = w.rows;
+        values = values;
+        lines = refl;
+        header_is = z.header_is;
+        sizes_are = rw size z.sizes_are;
+        rows_are = rw size w.rows_are;
+        all_rows = w.all_rows;
+        columns_are = is ∙ ap (λ n. columns_of n values) (sym size);
+        rank = rank;
+        pointed = pointed;
+      },
+    )
 
--- ---- the two matrices of one text are one
+pub matrix_takes : (s after : RestOfText) (d : Degrees) → matrix_at s ≡ Ok (d, after) → HasRank d.k d.columns → (HasZeroSum d.k d.columns → ⊥)
+    → (front : List (List ℕ)) × (contents s ≡ front ++ contents after) × IsMatrixText front d
+unfolding matrix_at
+matrix_takes s after d e rank pointed =
+    let a = bind_ok (as_input (sizes_at s)) _ (d, after) e in
+    let b = bind_ok (columns_at a.0.0.0 a.0.0.1 a.0.1) _ (d, after) a.2 in
+    let p = ok_is (record { k = a.0.0.0; columns = b.0.0 }, b.0.1) (d, after) b.2 in
+    let v = columns_take a.0.1 b.0.1 a.0.0.0 a.0.0.1 b.0.0 b.1 in
+    let rank' : HasRank a.0.0.0 b.0.0 = subst (λ (q : Degrees × RestOfText). HasRank q.0.k q.0.columns) (sym p) rank in
+    let pointed' : HasZeroSum a.0.0.0 b.0.0 → ⊥ = subst (λ (q : Degrees × RestOfText). HasZeroSum q.0.k q.0.columns → ⊥) (sym p) pointed in
+    subst (λ (q : Degrees × RestOfText). (front : List (List ℕ)) × (contents s ≡ front ++ contents q.1) × IsMatrixText front q.0) p
+    (taken s a.0.1 b.0.1 a.0.0.0 a.0.0.1 b.0.0 v.0 (lift_ok form_bad _ _ a.1) v.1 v.2 rank' pointed')
 
-moved : (k k2 r r2 : ℕ) (s s2 : RestOfText) (read : Result (List Vector × RestOfText) FormFault) → k ≡ k2 → r ≡ r2 → s ≡ s2 → rows_at k r s ≡ read → rows_at k2 r2 s2 ≡ read
-moved k k2 r r2 s s2 read k_is r_is s_is h = (λ i. rows_at (sym k_is i) (sym r_is i) (sym s_is i)) ∙ h
+-- its columns have as many entries as there are rows
+pub matrix_lengths : (s : RestOfText) (d : Degrees) (after : RestOfText) → matrix_at s ≡ Ok (d, after) → AllOfLength d.k d.columns
+unfolding matrix_at
+matrix_lengths s d after e =
+    let a = bind_ok (as_input (sizes_at s)) _ (d, after) e in
+    let b = bind_ok (columns_at a.0.0.0 a.0.0.1 a.0.1) _ (d, after) a.2 in
+    let p = ok_is (record { k = a.0.0.0; columns = b.0.0 }, b.0.1) (d, after) b.2 in
+    let v = columns_take a.0.1 b.0.1 a.0.0.0 a.0.0.1 b.0.0 b.1 in
+    let rows = rows_take a.0.1 b.0.1 a.0.0.0 a.0.0.1 v.0 v.1 in
+    let all : AllOfLength a.0.0.0 b.0.0 = subst (AllOfLength a.0.0.0) (sym v.2) (lengths_are a.0.0.0 a.0.0.1 v.0 rows.all_rows) in
+    subst (λ (q : Degrees × RestOfText). AllOfLength q.0.k q.0.columns) p all
 
-pub front_unique : (s : RestOfText) (front rest front2 rest2 : List (List ℕ)) (d e : Degrees)
-    → contents s ≡ front ++ rest → IsMatrixText front d → contents s ≡ front2 ++ rest2 → IsMatrixText front2 e → (rest ≡ rest2) × (d ≡ e)
-front_unique s front rest front2 rest2 d e p m q n =
-    let a = front_again s front rest d p m in
-    let b = front_again s front2 rest2 e q n in
-    let sizes = ok_is ((d.k, length d.columns), a.between) ((e.k, length e.columns), b.between) (sym a.sizes ∙ b.sizes) in
-    let k_is : d.k ≡ e.k = ap (λ q. q.0.0) sizes in
-    let r_is : length d.columns ≡ length e.columns = ap (λ q. q.0.1) sizes in
-    let read = moved d.k e.k _ _ a.between b.between _ k_is r_is (ap (λ q. q.1) sizes) a.rows in
-    let rows = ok_is (a.values, a.after) (b.values, b.after) (sym read ∙ b.rows) in
-    let columns_is : d.columns ≡ e.columns = a.columns ∙ (λ i. columns_of (r_is i) (rows i).0) ∙ sym b.columns in
-    (sym a.left ∙ ap (λ q. contents q.1) rows ∙ b.left, λ i. record { k = k_is i; columns = columns_is i })
+few_of : (token : List ℕ) (n : ℕ) → IsInteger (pos 1) (pos 16) token (pos n) → n ≤ 16
+few_of token n i = omega (arith, ints, i.below)
 
--- ---- what is refused
+pub few_columns : (front : List (List ℕ)) (d : Degrees) → IsMatrixText front d → length d.columns ≤ 16
+few_columns front d m = few_of m.sizes_are.size (length d.columns) m.sizes_are.size_is
 
-pub sizes_refused : (s : RestOfText) (f : FormFault) → sizes_at s ≡ Err f → (front rest : List (List ℕ)) (d : Degrees) → contents s ≡ front ++ rest → IsMatrixText front d → ⊥
-sizes_refused s f h front rest d e m = let a = front_again s front rest d e m in cc (h, a.sizes)
+-- ---- judging
 
-pub rank_refused : (s : RestOfText) (f : FormFault) → sizes_at s ≡ Err f → HasOtherRank (contents s) → ⊥
-rank_refused s f h o = let a = sizes_again s o.header o.sizes o.rest o.k o.r o.are o.header_is o.sizes_are in cc (h, a.1)
+verdicts_agree : (d : Degrees) (v w : Verdict) → IsVerdict d v → IsVerdict d w → v ≡ w
+verdicts_agree d grades grades h g = refl
+verdicts_agree d grades low_rank h g = absurd (g h.0)
+verdicts_agree d grades unpointed h g = absurd (h.1 g.1)
+verdicts_agree d low_rank grades h g = absurd (h g.0)
+verdicts_agree d low_rank low_rank h g = refl
+verdicts_agree d low_rank unpointed h g = absurd (h g.0)
+verdicts_agree d unpointed grades h g = absurd (g.1 h.1)
+verdicts_agree d unpointed low_rank h g = absurd (g h.0)
+verdicts_agree d unpointed unpointed h g = refl
 
-pub other_rank : (s between : RestOfText) (k r : ℕ) → sizes_at s ≡ Ok ((k, r), between) → k ≢ 2 → HasOtherRank (contents s)
-other_rank s between k r h other =
-    let z = sizes_take s between k r h in
-    record { header = z.header; sizes = z.sizes; rest = contents between; k = k; r = r; are = z.lines; header_is = z.header_is; sizes_are = z.sizes_are; other = other }
+judged_same : (line : ℕ) (d : Degrees) (a b : Result Degrees InputFault) → JudgesMatrix line d a → JudgesMatrix line d b → a ≡ b
+judged_same line d a b h g = h.is ∙ ap (λ v. judged_by v line d) (verdicts_agree d h.verdict g.verdict h.right g.right) ∙ sym g.is
 
-pub no_other_rank : (s between : RestOfText) (r : ℕ) → sizes_at s ≡ Ok ((2, r), between) → HasOtherRank (contents s) → ⊥
-no_other_rank s between r h o =
-    let a = sizes_again s o.header o.sizes o.rest o.k o.r o.are o.header_is o.sizes_are in
-    o.other (ap (λ q. q.0.0) (ok_is ((o.k, o.r), a.0) ((2, r), between) (sym a.1 ∙ h)))
+grading_same : (m a b : Result (Degrees × RestOfText) InputFault) → JudgesRead m a → JudgesRead m b → a ≡ b
+grading_same (Err fault) a b h g = h ∙ sym g
+grading_same (Ok m) a b h g = h.is ∙ ap (λ (j : Result Degrees InputFault). j >>= λ d. Ok (d, m.1)) (judged_same _ m.0 h.judged g.judged h.judges g.judges) ∙ sym g.is
 
-pub rows_refused : (s between : RestOfText) (k r : ℕ) → sizes_at s ≡ Ok ((k, r), between)
-    → ((values : List Vector) (after : RestOfText) → rows_at k r between ≡ Ok (values, after) → HasRank k (columns_of r values) → HasZeroSum k (columns_of r values))
-    → (front rest : List (List ℕ)) (d : Degrees) → contents s ≡ front ++ rest → IsMatrixText front d → ⊥
-rows_refused s between k r h bad front rest d e m =
-    let a = front_again s front rest d e m in
-    let sizes = ok_is ((d.k, length d.columns), a.between) ((k, r), between) (sym a.sizes ∙ h) in
-    let k_is : d.k ≡ k = ap (λ q. q.0.0) sizes in
-    let r_is : length d.columns ≡ r = ap (λ q. q.0.1) sizes in
-    let rows = moved d.k k _ r a.between between _ k_is r_is (ap (λ q. q.1) sizes) a.rows in
-    let columns_is : d.columns ≡ columns_of r a.values = a.columns ∙ ap (λ n. columns_of n a.values) r_is in
-    let rank : HasRank k (columns_of r a.values) = subst (λ n. HasRank n (columns_of r a.values)) k_is (subst (λ (vs : List Vector). HasRank d.k vs) columns_is m.rank) in
-    let zero_sum = bad a.values a.after rows rank in
-    m.pointed (subst (λ (vs : List Vector). HasZeroSum d.k vs) (sym columns_is) (subst (λ n. HasZeroSum n (columns_of r a.values)) (sym k_is) zero_sum))
+pub gradings_same : (s : RestOfText) (a b : Result (Degrees × RestOfText) InputFault) → ReadsGrading s a → ReadsGrading s b → a ≡ b
+gradings_same s a b h g = grading_same (matrix_at s) a b h g
 
-pub front_found : (s between after : RestOfText) (k r : ℕ) (result : Result Degrees InputFault) → sizes_at s ≡ Ok ((k, r), between) → k ≡ 2
-    → IfOk result (λ d. (values : List Vector) × (rows_at k r between ≡ Ok (values, after)) × (d.k ≡ k) × (d.columns ≡ columns_of r values) × IsGrading k (columns_of r values))
-    → IfOk result (λ d. (front : List (List ℕ)) × (contents s ≡ front ++ contents after) × IsMatrixText front d × (d.k ≡ 2))
-front_found s between after k r (Ok d) sizes two h = let t = front_taken s between after k r h.0 d sizes h.1 h.2 h.3 h.4 in (t.0, t.1, t.2, h.2 ∙ two)
-front_found s between after k r (Err e) sizes two h = tt
+passed_by : (line : ℕ) (d x : Degrees) (v : Verdict) → IsVerdict d v → judged_by v line d ≡ Ok x → IsVerdict d grades × (d ≡ x)
+passed_by line d x grades h e = (h, ok_is d x e)
+passed_by line d x low_rank h e = absurd (cc e)
+passed_by line d x unpointed h e = absurd (cc e)
+
+passed : (m : Result (Degrees × RestOfText) InputFault) (d : Degrees) (after : RestOfText) → JudgesRead m (Ok (d, after)) → (m ≡ Ok (d, after)) × IsVerdict d grades
+passed (Err fault) d after h = absurd (cc h)
+passed (Ok m) d after h =
+    let a = bind_ok h.judged (λ x. Ok (x, m.1)) (d, after) (sym h.is) in
+    let p = ok_is (a.0, m.1) (d, after) a.2 in
+    let v = passed_by _ m.0 a.0 h.judges.verdict h.judges.right (sym h.judges.is ∙ a.1) in
+    (ap (λ (q : Degrees). Ok (q, m.1)) v.1 ∙ ap (λ (q : Degrees × RestOfText). Ok q) p, subst (λ (q : Degrees). IsVerdict q grades) (v.1 ∙ ap (λ (q : Degrees × RestOfText). q.0) p) v.0)
+
+pub grading_takes : (s after : RestOfText) (d : Degrees) → ReadsGrading s (Ok (d, after)) → (front : List (List ℕ)) × (contents s ≡ front ++ contents after) × IsMatrixText front d
+grading_takes s after d h = let p = passed (matrix_at s) d after h in matrix_takes s after d p.0 p.1.0 p.1.1
+
+good : (line : ℕ) (d : Degrees) → IsVerdict d grades → JudgesMatrix line d (Ok d)
+good line d h = record { verdict = grades; right = h; is = refl }
+
+pub grading_again : (s : RestOfText) (front rest : List (List ℕ)) (d : Degrees) → contents s ≡ front ++ rest → IsMatrixText front d
+    → (after : RestOfText) × ReadsGrading s (Ok (d, after)) × (contents after ≡ rest)
+grading_again s front rest d e m =
+    let a = matrix_again s front rest d e m in
+    let j : JudgesGrading (d, a.0) (Ok (d, a.0)) = record { judged = Ok d; judges = good _ d (m.rank, m.pointed); is = refl } in
+    (a.0, subst (λ (r : Result (Degrees × RestOfText) InputFault). JudgesRead r (Ok (d, a.0))) (sym a.1) j, a.2)

@@ -1,8 +1,13 @@
 pub mod RowLoops
 pub mod ColumnLemmas
+pub mod OneDegree
 pub mod ExactLines
 pub mod ExactText
 pub mod Matrices
+pub mod Judging
+pub mod GeneratorLines
 pub mod Fronts
-pub mod Inputs
-pub mod OutcomeLemmas
+pub mod WholeTexts
+pub mod Verdicts
+pub mod NoWant
+pub mod Totality

@@ -44,7 +44,7 @@ at_column r values i d lt =
     let few : i < r = omega (arith, lt, length-map-range_with_len (column_of values) 0 r) in
     get_or-map-range_with_len (column_of values) 0 r i i d few (omega arith)
 
-lengths_are : (k r : ℕ) (values : List Vector) → length values ≡ k → AllOfLength k (columns_of r values)
+pub lengths_are : (k r : ℕ) (values : List Vector) → length values ≡ k → AllOfLength k (columns_of r values)
 lengths_are k r values size i d lt = ap length (at_column r values i d lt) ∙ length-column_of values i ∙ size
 
 entries_are : (r : ℕ) (rows : List (List ℕ)) (values : List Vector) → Together (IsRow r) rows values → All (AreWithin 1000) (columns_of r values)

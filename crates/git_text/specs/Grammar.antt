@@ -1,9 +1,12 @@
--- The grammar of the input text: which bytes are the input of which matrix.
-use Rattle.std.specs.Prelude.{◌≡◌, ◌≢◌, ℕ, ◌<◌, ◌⊎◌, List, [], ◌∷◌, ◌++◌, length, map, slice_index_or, codes, pos}
+-- The grammar of the input text: which bytes are the input of which matrix and generators.
+use Rattle.std.specs.Prelude.{◌≡◌, ℕ, List, [], ◌∷◌, ◌++◌, length, map, slice_index_or, codes, pos}
 use Rattle.std.specs.List.{range_with_len}
 use Rattle.std.proofs.Math.IntN.{neg_ℤ}
 use Rattle.git_defs.specs.Vectors.{Vector, HasRank, HasZeroSum}
 use Rattle.git_ints.specs.Gradings.{Degrees}
+use Rattle.git_algebra.specs.Polynomials.{Polynomial}
+use Rattle.git_poly.specs.Degrees.{IsHomogeneous}
+use Rattle.git_polytext.specs.Grammar.{IsPolynomialLine}
 use Rattle.git_lines.specs.Lines.{lines_of, content}
 use Rattle.git_lines.specs.Tokens.{words}
 use Rattle.git_lines.specs.Grammar.{Together, IsInteger}
@@ -64,49 +67,32 @@ pub record IsMatrixText (front : List (List ℕ)) (d : Degrees) : Type 0 where
 
 -- ---- the whole text
 
+-- what contracts see of an input: the matrix, and the generators of the ideal
+pub record InputValue : Type 0 where
+  pub degrees : Degrees
+  pub generators : List Polynomial
+
+-- the line of a generator: a polynomial in the variables of the matrix, whose monomials have one degree
+pub record IsGenerator (d : Degrees) (line : List ℕ) (p : Polynomial) : Type 0 where
+  pub is : IsPolynomialLine (length d.columns) line p
+  pub homogeneous : IsHomogeneous d.k d.columns p
+
 -- the lines of a text, without their ends
 abbrev pub contents_of : List ℕ → List (List ℕ)
 contents_of bytes = map content (lines_of bytes)
 
--- the bytes are the text of this matrix with the ideal 0
-pub record IsInput (bytes : List ℕ) (d : Degrees) : Type 0 where
-  pub front : List (List ℕ)
+-- the lines up to `end` are the text of this input
+pub record IsInputFront (front : List (List ℕ)) (v : InputValue) : Type 0 where
+  pub matrix_lines : List (List ℕ)
   pub ideal : List ℕ
+  pub polynomials : List (List ℕ)
   pub end : List ℕ
-  pub lines : contents_of bytes ≡ front ++ (ideal ∷ end ∷ [])
-  pub matrix : IsMatrixText front d
-  pub ideal_is : IsIdeal ideal 0
+  pub lines : front ≡ matrix_lines ++ (ideal ∷ polynomials ++ (end ∷ []))
+  pub matrix : IsMatrixText matrix_lines v.degrees
+  pub ideal_is : IsIdeal ideal (length v.generators)
+  pub polynomials_are : Together (IsGenerator v.degrees) polynomials v.generators
   pub end_is : IsEnd end
 
--- the lines begin with the sizes of a matrix that has not two rows; whatever follows
-pub record HasOtherRank (lines : List (List ℕ)) : Type 0 where
-  pub header : List ℕ
-  pub sizes : List ℕ
-  pub rest : List (List ℕ)
-  pub k : ℕ
-  pub r : ℕ
-  pub are : lines ≡ header ∷ sizes ∷ rest
-  pub header_is : IsHeader header
-  pub sizes_are : IsSizes sizes k r
-  pub other : k ≢ 2
-
--- the lines begin with a matrix of two rows and a number of generators that is not 0; whatever follows
-pub record HasGenerators (lines : List (List ℕ)) : Type 0 where
-  pub front : List (List ℕ)
-  pub ideal : List ℕ
-  pub rest : List (List ℕ)
-  pub d : Degrees
-  pub m : ℕ
-  pub are : lines ≡ front ++ (ideal ∷ rest)
-  pub matrix : IsMatrixText front d
-  pub two : d.k ≡ 2
-  pub ideal_is : IsIdeal ideal m
-  pub some : 0 < m
-
--- the text asks for what is not built yet
-abbrev pub IsNotBuilt : List ℕ → Type 0
-IsNotBuilt bytes = HasOtherRank (contents_of bytes) ⊎ HasGenerators (contents_of bytes)
-
--- no input of any matrix, and no text that asks for what is not built yet
-abbrev pub IsBad : List ℕ → Type 0
-IsBad bytes = ((d : Degrees) → IsInput bytes d → ⊥) × (IsNotBuilt bytes → ⊥)
+-- the bytes are the text of this input
+abbrev pub IsInput : List ℕ → InputValue → Type 0
+IsInput bytes v = IsInputFront (contents_of bytes) v

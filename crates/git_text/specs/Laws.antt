@@ -1,16 +1,40 @@
 -- What holds of inputs.
-use Rattle.std.specs.Prelude.{◌≡◌, ◌≢◌, ℕ, List}
+use Rattle.std.specs.Prelude.{◌≡◌, ◌⊎◌, ◌↔◌, ℕ, List, Ok, Option, Some, None}
+use Rattle.git_algebra.specs.Exponents.{Exponents}
+use Rattle.git_algebra.specs.Polynomials.{Polynomial}
 use Rattle.git_ints.specs.Gradings.{Degrees}
-use Rattle.git_text.specs.Grammar.{IsInput, IsNotBuilt}
+use Rattle.git_poly.specs.Degrees.{IsHomogeneous, AreApart}
+use Rattle.git_text.specs.declared.fault.BadKind.{BadKind}
+use Rattle.git_text.specs.declared.fault.InputFault.TheVariants.{Bad}
+use Rattle.git_text.specs.Grammar.{InputValue, IsInput}
+use Rattle.git_text.specs.OneDegree.{apart}
+use Rattle.git_text.specs.Reading.{Reads, IsFirstFault}
 
--- a text is the input of one matrix at most
+-- a text is one input at most
 abbrev pub OneInput : Type 0
-OneInput = (bytes : List ℕ) (d e : Degrees) → IsInput bytes d → IsInput bytes e → d ≡ e
+OneInput = (bytes : List ℕ) (v w : InputValue) → IsInput bytes v → IsInput bytes w → v ≡ w
 
--- the input of a matrix with two rows asks for nothing that is not built
-abbrev pub InputsAreBuilt : Type 0
-InputsAreBuilt = (bytes : List ℕ) (d : Degrees) → IsInput bytes d → d.k ≡ 2 → IsNotBuilt bytes → ⊥
+-- what is read from the left is what the grammar says
+abbrev pub ReadingIsTheGrammar : Type 0
+ReadingIsTheGrammar = (bytes : List ℕ) (v : InputValue) → (Reads bytes (Ok v) ↔ IsInput bytes v)
 
--- the input of any other matrix does
-abbrev pub OtherInputsAreNotBuilt : Type 0
-OtherInputsAreNotBuilt = (bytes : List ℕ) (d : Degrees) → IsInput bytes d → d.k ≢ 2 → IsNotBuilt bytes
+-- a text has one first fault at most
+abbrev pub OneFirstFault : Type 0
+OneFirstFault = (bytes : List ℕ) (line column line2 column2 : ℕ) (kind kind2 : BadKind) → IsFirstFault bytes line column kind → IsFirstFault bytes line2 column2 kind2
+    → Bad line column kind ≡ Bad line2 column2 kind2
+
+-- an input has none
+abbrev pub InputsHaveNoFault : Type 0
+InputsHaveNoFault = (bytes : List ℕ) (v : InputValue) (line column : ℕ) (kind : BadKind) → IsInput bytes v → IsFirstFault bytes line column kind → ⊥
+
+-- each text is an input or has a first fault
+abbrev pub InputOrFirstFault : Type 0
+InputOrFirstFault = (bytes : List ℕ) → ((v : InputValue) × IsInput bytes v) ⊎ ((line : ℕ) × (column : ℕ) × (kind : BadKind) × IsFirstFault bytes line column kind)
+
+-- the monomials that reading finds apart are those of the definition
+abbrev pub AreApartAsRead : Degrees → Polynomial → Option (Exponents × Exponents) → Type 0
+AreApartAsRead d p None = IsHomogeneous d.k d.columns p
+AreApartAsRead d p (Some pair) = AreApart d.k d.columns p pair.0 pair.1
+
+abbrev pub MonomialsApartAreFound : Type 0
+MonomialsApartAreFound = (d : Degrees) (p : Polynomial) → AreApartAsRead d p (apart d p.terms)

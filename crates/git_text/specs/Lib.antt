@@ -1,5 +1,7 @@
 pub mod Grammar
+pub mod Faults
+pub mod OneDegree
 pub mod Reading
 pub mod Views
-pub mod Outcomes
+pub mod Inputs
 pub mod Laws

@@ -3,19 +3,34 @@ ghost use Rattle.std.specs.Prelude.{◌≡◌, ◌≤◌, IfOk};
 ghost use Rattle.git_lines.specs.Views.{line_of, rest_of_text};
 ghost use Rattle.git_lines.specs.Reading.{Gives};
 ghost use Rattle.git_text.specs.Reading;
-ghost use Rattle.git_text.specs.Reading.{next_by, sizes_at, end_at};
+ghost use Rattle.git_text.specs.Reading.{form_by, sizes_at};
 
-use git_lines::{Cursor, FormFault, Line, Lines};
+use git_lines::{Cursor, FormFault, FormKind, Line, Lines};
 
-/// `gitfan 1`.
-#[tactic(auto, unfolding(crate::specs::Reading::header_line))]
-fn header_line(line: &Line<'_>) -> Result<(), FormFault>
-    ensures { Gives (λ x. tt) result (Rattle.git_text.specs.Reading.header_line line.now.number line.now.text.now) }
+/// The words of the first line.
+#[tactic(auto, unfolding(crate::specs::Reading::header_words))]
+fn header_words(line: &Line<'_>) -> Result<(), FormFault>
+    ensures { Gives (λ x. tt) result (Rattle.git_text.specs.Reading.header_words line.now.number line.now.text.now) }
 {
     let mut words = Cursor::words(line);
     words.word_token(b"gitfan")?;
     words.word_token(b"1")?;
     words.no_token()
+}
+
+/// `gitfan 1`. Whatever is wrong is `Header` at the line's first byte.
+#[tactic(auto, unfolding(crate::specs::Reading::header_line))]
+fn header_line(line: &Line<'_>) -> Result<(), FormFault>
+    ensures { Gives (λ x. tt) result (Rattle.git_text.specs.Reading.header_line line.now.number line.now.text.now) }
+{
+    match header_words(line) {
+        Ok(()) => Ok(()),
+        Err(_) => Err(FormFault {
+            line: line.number,
+            column: 1,
+            kind: FormKind::Header,
+        }),
+    }
 }
 
 /// `grading K R`.
@@ -59,7 +74,7 @@ fn end_line(line: &Line<'_>) -> Result<(), FormFault>
 
 #[tactic(auto, unfolding(git_lines::specs::Reading::line_by))]
 fn header(lines: &mut Lines<'_>) -> Result<(), FormFault>
-    ensures { Gives (λ x. (tt, rest_of_text lines.new)) result (next_by Rattle.git_text.specs.Reading.header_line (rest_of_text lines.old)) }
+    ensures { Gives (λ x. (tt, rest_of_text lines.new)) result (form_by Rattle.git_text.specs.Reading.header_line (rest_of_text lines.old)) }
 {
     let line = lines.next_line()?;
     header_line(&line)
@@ -67,7 +82,7 @@ fn header(lines: &mut Lines<'_>) -> Result<(), FormFault>
 
 #[tactic(auto, unfolding(git_lines::specs::Reading::line_by))]
 fn sizes(lines: &mut Lines<'_>) -> Result<(usize, usize), FormFault>
-    ensures reads { Gives (λ x. (x, rest_of_text lines.new)) result (next_by Rattle.git_text.specs.Reading.sizes_line (rest_of_text lines.old)) }
+    ensures reads { Gives (λ x. (x, rest_of_text lines.new)) result (form_by Rattle.git_text.specs.Reading.sizes_line (rest_of_text lines.old)) }
     ensures some_rows { IfOk result (λ x. 1 ≤ x.0) }
     ensures few_rows { IfOk result (λ x. x.0 ≤ 6) }
     ensures some_columns { IfOk result (λ x. 1 ≤ x.1) }
@@ -93,25 +108,17 @@ pub(crate) fn header_and_sizes(lines: &mut Lines<'_>) -> Result<(usize, usize), 
 /// The line of the number of generators.
 #[tactic(auto, unfolding(git_lines::specs::Reading::line_by))]
 pub(crate) fn ideal(lines: &mut Lines<'_>) -> Result<usize, FormFault>
-    ensures { Gives (λ x. (x, rest_of_text lines.new)) result (next_by Rattle.git_text.specs.Reading.ideal_line (rest_of_text lines.old)) }
+    ensures { Gives (λ x. (x, rest_of_text lines.new)) result (form_by Rattle.git_text.specs.Reading.ideal_line (rest_of_text lines.old)) }
 {
     let line = lines.next_line()?;
     ideal_line(&line)
 }
 
+/// The last line.
 #[tactic(auto, unfolding(git_lines::specs::Reading::line_by))]
-fn end(lines: &mut Lines<'_>) -> Result<(), FormFault>
-    ensures { Gives (λ x. (tt, rest_of_text lines.new)) result (next_by Rattle.git_text.specs.Reading.end_line (rest_of_text lines.old)) }
+pub(crate) fn end(lines: &mut Lines<'_>) -> Result<(), FormFault>
+    ensures { Gives (λ x. (tt, rest_of_text lines.new)) result (form_by Rattle.git_text.specs.Reading.end_line (rest_of_text lines.old)) }
 {
     let line = lines.next_line()?;
     end_line(&line)
-}
-
-/// The last line, and no line after it.
-#[tactic(auto, unfolding(crate::specs::Reading::end_at))]
-pub(crate) fn last_line(lines: &mut Lines<'_>) -> Result<(), FormFault>
-    ensures { Gives (λ x. tt) result (end_at (rest_of_text lines.old)) }
-{
-    end(lines)?;
-    lines.no_line()
 }

@@ -1,48 +1,100 @@
 //! The whole text.
-ghost use Rattle.std.specs.Prelude.{◌≡◌, ◌<◌, ◌-◌, ◌^◌, ◌⊎◌, length, IfOk, IsErrOf, MatchResult};
-ghost use Rattle.git_ints.specs.Gradings.{Degrees};
-ghost use Rattle.git_text.specs.Grammar.{IsInput, IsNotBuilt, IsBad};
-ghost use Rattle.git_text.specs.Outcomes.{IsOutcome};
+ghost use Rattle.std.specs.Prelude.{◌≡◌, ◌<◌, ◌≤◌, ◌-◌, ◌^◌, ◌⊎◌, ℕ, length, IfOk, IsErrOf, MatchResult};
+ghost use Rattle.git_lines.specs.Views.{rest_of_text};
+ghost use Rattle.git_text.specs.declared.fault.BadKind.{BadKind};
+ghost use Rattle.git_text.specs.Faults.{GivesUnlessFull, FitsUnlessFull};
+ghost use Rattle.git_text.specs.Grammar.{InputValue, IsInput};
+ghost use Rattle.git_text.specs.Reading.{rest_at, ReadsFront, Reads, IsFirstFault, variables_in};
 
 use crate::fault::InputFault;
-use crate::fields::{ideal, last_line};
-use crate::matrix::matrix;
+use crate::fields::{end, header_and_sizes};
+use crate::generators::generators;
+use crate::matrix::grading;
 use git_ints::Grading;
 use git_lines::Lines;
+use git_poly::Poly;
 use std::alloc::Global;
+use std::marker::Model;
 
-/// An input: so far a grading alone, whose ideal is 0.
+/// A grading and the generators of an ideal: at most 64 polynomials in the grading's variables, with exponents of at most 64,
+/// each homogeneous. The polynomial 0 may be among them.
 #[derive(Drop)]
 pub struct Input {
     pub grading: Grading,
+    pub generators: Vec<Poly>,
+}
+
+impl Model for Input {
+    ghost use Rattle.git_text.specs.Grammar.{InputValue};
+    ghost use Rattle.git_text.specs.Inputs.{AreGenerators, input_code};
+
+    ghost Value = { InputValue };
+
+    ghost coded = { input_code };
+
+    ghost view = { λ x. record { degrees = x.grading; generators = x.generators.items } };
+
+    ghost invariant = { λ x. AreGenerators x.grading x.generators.items };
+}
+
+/// The input with this grading, of the lines from the number of generators to `end`.
+#[tactic(auto, unfolding(crate::specs::Reading::rest_at))]
+fn rest(alloc: Global, lines: &mut Lines<'_>, grading: Grading) -> Result<Input, InputFault>
+    ensures { GivesUnlessFull (λ x. (x, rest_of_text lines.new)) result (rest_at grading (rest_of_text lines.old)) }
+{
+    let generators = generators(alloc, lines, &grading)?;
+    end(lines)?;
+    Ok(Input {
+        grading,
+        generators,
+    })
+}
+
+/// The input of the lines up to `end`, or the first fault.
+fn front(alloc: Global, lines: &mut Lines<'_>) -> Result<Input, InputFault>
+    ensures { FitsUnlessFull (λ x. (x, rest_of_text lines.new)) result (ReadsFront (rest_of_text lines.old)) }
+{
+    let grading = grading(alloc, lines)?;
+    rest(alloc, lines, grading)
 }
 
 /// The input, or the first fault.
 fn read_lines(alloc: Global, bytes: &[u8]) -> Result<Input, InputFault>
     requires { length bytes.now < 2 ^ 32 - 1 }
-    ensures { IsOutcome bytes.now result }
+    ensures { FitsUnlessFull (λ x. x) result (Reads bytes.now) }
 {
     let mut lines = Lines::new(bytes);
-    let grading = matrix(alloc, &mut lines)?;
-    if ideal(&mut lines)? != 0 {
-        return Err(InputFault::NotBuilt);
-    }
-    last_line(&mut lines)?;
-    Ok(Input { grading })
+    let input = front(alloc, &mut lines)?;
+    lines.no_line()?;
+    Ok(input)
 }
 
-/// The input that the bytes are: so far a matrix with two rows and the ideal 0.
+/// The number of variables that the second line of a text announces, or 0 where the first two lines are not right.
 ///
-/// `bytes` are fewer than 2^32 - 1. `NotBuilt` where they begin as a matrix whose number of rows is not 2, or as a matrix of
-/// two rows and a number of generators that is not 0, whatever follows; `Bad` where they are neither that nor an input;
-/// `NoMemory` where memory runs out.
+/// `bytes` are fewer than 2^32 - 1.
+pub fn announced_variables(bytes: &[u8]) -> usize
+    requires { length bytes.now < 2 ^ 32 - 1 }
+    ensures value { result ≡ variables_in bytes.now }
+    ensures few { result ≤ 16 }
+{
+    let mut lines = Lines::new(bytes);
+    match header_and_sizes(&mut lines) {
+        Ok(sizes) => sizes.1,
+        Err(_) => 0,
+    }
+}
+
+/// The input that the bytes are.
+///
+/// `bytes` are fewer than 2^32 - 1. `Bad` where they are no input: their first fault, read from left to right, with its line
+/// and its column. `NoMemory` where memory runs out.
 pub fn read_input(alloc: Global, bytes: &[u8]) -> Result<Input, InputFault>
     requires { length bytes.now < 2 ^ 32 - 1 }
-    ensures found { IfOk result (λ x. IsInput bytes.now x.grading × (x.grading.k ≡ 2)) }
-    ensures only { (d : Degrees) → IsInput bytes.now d → d.k ≡ 2 → MatchResult result (λ x. x.grading ≡ d) (λ e. e ≡ InputFault.NoMemory) }
-    ensures not_built { IsErrOf result InputFault.NotBuilt → IsNotBuilt bytes.now }
-    ensures built { IsNotBuilt bytes.now → MatchResult result (λ x. ⊥) (λ e. (e ≡ InputFault.NotBuilt) ⊎ (e ≡ InputFault.NoMemory)) }
-    ensures bad { IsErrOf result InputFault.Bad → IsBad bytes.now }
+    ensures found { IfOk result (λ x. IsInput bytes.now x) }
+    ensures only { (v : InputValue) → IsInput bytes.now v → MatchResult result (λ x. x ≡ v) (λ e. e ≡ InputFault.NoMemory) }
+    ensures fault { (line column : ℕ) (kind : BadKind) → IsErrOf result (InputFault.Bad line column kind) → IsFirstFault bytes.now line column kind }
+    ensures first { (line column : ℕ) (kind : BadKind) → IsFirstFault bytes.now line column kind
+        → MatchResult result (λ x. ⊥) (λ e. (e ≡ InputFault.Bad line column kind) ⊎ (e ≡ InputFault.NoMemory)) }
 {
     read_lines(alloc, bytes)
 }

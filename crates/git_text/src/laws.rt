@@ -1,17 +1,32 @@
 //! Laws of the definitions, each the contract of an empty function.
-ghost use Rattle.git_text.specs.Laws.{OneInput, InputsAreBuilt, OtherInputsAreNotBuilt};
+ghost use Rattle.git_text.specs.Laws.{OneInput, ReadingIsTheGrammar, OneFirstFault, InputsHaveNoFault, InputOrFirstFault, MonomialsApartAreFound};
 
-/// A text is the input of one matrix at most.
+/// A text is one input at most.
 pub fn one_input()
     ensures { OneInput }
 {}
 
-/// The input of a matrix with two rows asks for nothing that is not built.
-pub fn inputs_are_built()
-    ensures { InputsAreBuilt }
+/// What is read from the left is what the grammar says.
+pub fn reading_is_the_grammar()
+    ensures { ReadingIsTheGrammar }
 {}
 
-/// The input of a matrix with another number of rows asks for what is not built.
-pub fn other_inputs_are_not_built()
-    ensures { OtherInputsAreNotBuilt }
+/// A text has one first fault at most.
+pub fn one_first_fault()
+    ensures { OneFirstFault }
+{}
+
+/// An input has no fault.
+pub fn inputs_have_no_fault()
+    ensures { InputsHaveNoFault }
+{}
+
+/// Each text is an input or has a first fault.
+pub fn input_or_first_fault()
+    ensures { InputOrFirstFault }
+{}
+
+/// The monomials that reading finds apart are the lead's and the greatest of another degree, where there is one.
+pub fn monomials_apart_are_found()
+    ensures { MonomialsApartAreFound }
 {}

@@ -1,18 +1,22 @@
-//! The reader of the input text, so far for a matrix with two rows and the ideal 0, exact against a grammar. Stands on the
-//! reading of lines, tokens and integers and on gradings; the program's calls stand on it.
+//! The reader of the input text, exact against a grammar: a grading and the generators of an ideal, or the first fault
+//! with its place. Stands on the reading of lines and polynomials and on gradings; the program's calls stand on it.
 #![tactic(auto)]
 
 mod columns;
 mod fault;
 mod fields;
+mod generators;
 mod input;
 mod laws;
 mod matrix;
 mod rows;
 
-pub use fault::InputFault;
-pub use input::{Input, read_input};
-pub use laws::{inputs_are_built, one_input, other_inputs_are_not_built};
+pub use fault::{BadKind, InputFault};
+pub use input::{Input, announced_variables, read_input};
+pub use laws::{
+    input_or_first_fault, inputs_have_no_fault, monomials_apart_are_found, one_first_fault,
+    one_input, reading_is_the_grammar,
+};
 
 #[cfg(test)]
 mod tests;

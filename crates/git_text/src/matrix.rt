@@ -1,68 +1,66 @@
 //! The lines up to the last row of the matrix.
-ghost use Rattle.std.specs.Prelude.{◌≡◌, ◌≤◌, ◌++◌, List, ℕ, Ok, length, IfOk, IsErrOf};
-ghost use Rattle.git_defs.specs.Vectors.{Vector, HasRank, HasZeroSum};
-ghost use Rattle.git_ints.specs.Gradings.{Degrees, IsMatrix, IsGrading};
-ghost use Rattle.git_lines.specs.Lines.{RestOfText, contents};
+ghost use Rattle.std.specs.Prelude.{◌≡◌, ◌≤◌, ◌-◌, IfOk};
+ghost use Rattle.git_ints.specs.Gradings.{IsMatrix};
 ghost use Rattle.git_lines.specs.Views.{rest_of_text};
-ghost use Rattle.git_text.specs.Grammar.{columns_of, IsMatrixText, HasOtherRank};
-ghost use Rattle.git_text.specs.Reading.{rows_at};
+ghost use Rattle.git_text.specs.Faults.{FitsUnlessFull, GivesUnlessFull};
+ghost use Rattle.git_text.specs.Reading.{columns_at, JudgesMatrix, ReadsGrading};
 
 use crate::columns::columns;
-use crate::fault::InputFault;
+use crate::fault::{BadKind, InputFault};
 use crate::fields::header_and_sizes;
 use crate::rows::matrix_rows;
 use git_ints::{Grading, GradingFault, IVec};
 use git_lines::Lines;
 use std::alloc::Global;
 
-/// The grading with these columns. Rank is judged before pointedness.
-fn grading(alloc: Global, k: usize, columns: Vec<IVec>) -> Result<Grading, InputFault>
-    requires two { k ≡ 2 }
-    requires matrix { IsMatrix k columns.items }
-    ensures value { IfOk result (λ g. (g.k ≡ k) × (g.columns ≡ columns.items)) }
-    ensures grading { IfOk result (λ g. IsGrading k columns.items) }
-    ensures bad { IsErrOf result InputFault.Bad → HasRank k columns.items → HasZeroSum k columns.items }
-    ensures built { IsErrOf result InputFault.NotBuilt → ⊥ }
+/// A fault of the matrix, at the first byte of its last row.
+fn bad_matrix(next: u32, kind: BadKind) -> InputFault
+    ensures { result ≡ InputFault.Bad (next - 1) 1 kind }
+{
+    InputFault::Bad {
+        line: next.saturating_sub(1),
+        column: 1,
+        kind,
+    }
+}
+
+/// The grading with these columns, whose last row is the line before this one. Rank is judged before pointedness.
+fn judged(alloc: Global, k: usize, columns: Vec<IVec>, next: u32) -> Result<Grading, InputFault>
+    requires { IsMatrix k columns.items }
+    ensures { FitsUnlessFull (λ g. g) result (JudgesMatrix (next - 1) (record { k = k; columns = columns.items })) }
 {
     match Grading::of(alloc, k, columns) {
         Ok(grading) => Ok(grading),
         Err(GradingFault::NoMemory) => Err(InputFault::NoMemory),
-        Err(GradingFault::Rank | GradingFault::Pointed) => Err(InputFault::Bad),
+        Err(GradingFault::Rank) => Err(bad_matrix(next, BadKind::Rank)),
+        Err(GradingFault::Pointed) => Err(bad_matrix(next, BadKind::Pointed)),
     }
 }
 
-/// The grading whose matrix has the next `k` lines as its rows, of `r` entries each.
-fn grading_of_rows(
+/// The columns of the next `k` lines, of `r` entries each.
+#[tactic(auto, unfolding(crate::specs::Reading::columns_at))]
+fn columns_of_rows(
     alloc: Global,
     lines: &mut Lines<'_>,
     k: usize,
     r: usize,
-) -> Result<Grading, InputFault>
-    requires two { k ≡ 2 }
-    requires some { 1 ≤ r }
-    requires few { r ≤ 16 }
-    ensures found { IfOk result (λ g. (values : List Vector) × (rows_at k r (rest_of_text lines.old) ≡ Ok (values, rest_of_text lines.new))
-        × (g.k ≡ k) × (g.columns ≡ columns_of r values) × IsGrading k (columns_of r values)) }
-    ensures bad { IsErrOf result InputFault.Bad → (values : List Vector) (after : RestOfText) → rows_at k r (rest_of_text lines.old) ≡ Ok (values, after)
-        → HasRank k (columns_of r values) → HasZeroSum k (columns_of r values) }
-    ensures built { IsErrOf result InputFault.NotBuilt → ⊥ }
+) -> Result<Vec<IVec>, InputFault>
+    requires some_rows { 1 ≤ k }
+    requires few_rows { k ≤ 6 }
+    requires some_columns { 1 ≤ r }
+    requires few_columns { r ≤ 16 }
+    ensures reads { GivesUnlessFull (λ v. (v.items, rest_of_text lines.new)) result (columns_at k r (rest_of_text lines.old)) }
+    ensures matrix { IfOk result (λ v. IsMatrix k v.items) }
 {
     let rows = matrix_rows(alloc, lines, k, r)?;
-    let columns = columns(alloc, &rows, r)?;
-    grading(alloc, k, columns)
+    Ok(columns(alloc, &rows, r)?)
 }
 
 /// The grading of the lines up to the last row.
-pub(crate) fn matrix(alloc: Global, lines: &mut Lines<'_>) -> Result<Grading, InputFault>
-    ensures found { IfOk result (λ g. (front : List (List ℕ)) × (contents (rest_of_text lines.old) ≡ front ++ contents (rest_of_text lines.new))
-        × IsMatrixText front g × (g.k ≡ 2)) }
-    ensures not_built { IsErrOf result InputFault.NotBuilt → HasOtherRank (contents (rest_of_text lines.old)) }
-    ensures bad { IsErrOf result InputFault.Bad → (front rest : List (List ℕ)) (d : Degrees) → contents (rest_of_text lines.old) ≡ front ++ rest → IsMatrixText front d → ⊥ }
-    ensures two { IsErrOf result InputFault.Bad → HasOtherRank (contents (rest_of_text lines.old)) → ⊥ }
+pub(crate) fn grading(alloc: Global, lines: &mut Lines<'_>) -> Result<Grading, InputFault>
+    ensures { FitsUnlessFull (λ g. (g, rest_of_text lines.new)) result (ReadsGrading (rest_of_text lines.old)) }
 {
     let (k, r) = header_and_sizes(lines)?;
-    if k != 2 {
-        return Err(InputFault::NotBuilt);
-    }
-    grading_of_rows(alloc, lines, k, r)
+    let columns = columns_of_rows(alloc, lines, k, r)?;
+    judged(alloc, k, columns, lines.line)
 }

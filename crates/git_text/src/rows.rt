@@ -4,7 +4,8 @@ ghost use Rattle.std.proofs.Math.IntN.{neg_ℤ};
 ghost use Rattle.git_lines.specs.Views.{line_of, rest_of_text};
 ghost use Rattle.git_lines.specs.Reading.{times, integer_token};
 ghost use Rattle.git_text.specs.Reading;
-ghost use Rattle.git_text.specs.Reading.{GivesUnlessFull, next_by, rows_at};
+ghost use Rattle.git_text.specs.Faults.{GivesUnlessFull, as_input};
+ghost use Rattle.git_text.specs.Reading.{next_by, rows_at};
 ghost use Rattle.git_text.specs.Views.{row_of, rows_of};
 
 use crate::fault::InputFault;
@@ -19,7 +20,7 @@ pub(crate) struct Row {
 
 /// The next `r` integers from -1000 to 1000.
 fn entries(alloc: Global, words: &mut Cursor<'_>, r: usize) -> Result<Vec<i64>, InputFault>
-    ensures { GivesUnlessFull (λ v. (v.items, words.new)) result (times (integer_token (neg_ℤ (pos 1000)) (pos 1000)) r words.old) }
+    ensures { GivesUnlessFull (λ v. (v.items, words.new)) result (as_input (times (integer_token (neg_ℤ (pos 1000)) (pos 1000)) r words.old)) }
 {
     let mut entries = Vec::with_capacity(alloc, r)?;
     for _ in 0..r {

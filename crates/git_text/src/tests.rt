@@ -1,35 +1,17 @@
 //! Texts worked by hand.
 use super::*;
 use git_ints::{Grading, IVec};
+use git_mono::Mono;
+use git_polytext::print_poly;
 use std::alloc::Global;
 use std::test::*;
 
 /// What the reader answers to a short text.
 fn answer(alloc: Global, text: &[u8]) -> Result<Input, InputFault> {
-    if text.len() > 1000 {
+    if text.len() > 2000 {
         return Err(InputFault::NoMemory);
     }
     read_input(alloc, text)
-}
-
-fn has_columns(grading: &Grading, columns: &[[i128; 2]]) -> bool {
-    if grading.columns().len() != columns.len() {
-        return false;
-    }
-    for (found, wanted) in grading.columns().iter().zip(columns) {
-        if *found != IVec::of(wanted) {
-            return false;
-        }
-    }
-    true
-}
-
-/// Whether the text is read as the matrix with these columns.
-fn is_read(alloc: Global, text: &[u8], columns: &[[i128; 2]]) -> bool {
-    match answer(alloc, text) {
-        Ok(input) => has_columns(&input.grading, columns),
-        Err(_) => false,
-    }
 }
 
 fn fault_of(alloc: Global, text: &[u8]) -> Option<InputFault> {
@@ -39,74 +21,218 @@ fn fault_of(alloc: Global, text: &[u8]) -> Option<InputFault> {
     }
 }
 
+fn has_columns(grading: &Grading, columns: &[&[i128]]) -> bool {
+    if grading.columns().len() != columns.len() {
+        return false;
+    }
+    for (found, wanted) in grading.columns().iter().zip(columns) {
+        if found.as_slice() != *wanted {
+            return false;
+        }
+    }
+    true
+}
+
+fn has_generators(alloc: Global, input: &Input, texts: &[&[u8]]) -> bool {
+    if input.generators.len() != texts.len() {
+        return false;
+    }
+    for (found, wanted) in input.generators.iter().zip(texts) {
+        match print_poly(alloc, found) {
+            Ok(text) if text.as_slice() == *wanted => {}
+            _ => return false,
+        }
+    }
+    true
+}
+
+/// A text, the columns of its matrix, and its generators as they are printed.
+type Value = (
+    &'static [u8],
+    &'static [&'static [i128]],
+    &'static [&'static [u8]],
+);
+
+const PLANE: &[&[i128]] = &[&[1, 0], &[1, 1], &[0, 1]];
+
 const TEXT: &[u8] = b"gitfan 1\ngrading 2 3\n1 1 0\n0 1 1\nideal 0\nend\n";
+
+const VALUES: [Value; 8] = [
+    (TEXT, PLANE, &[]),
+    (
+        b"  gitfan   1 \r\n grading 2  3\r\n1 1 0 \r\n 0 1 1\r\nideal 0 \r\nend\r\n",
+        PLANE,
+        &[],
+    ),
+    (
+        b"gitfan 1\ngrading 02 3\n000000000000000001 1 -0\n0 007 01\nideal -0\nend",
+        &[&[1, 0], &[1, 7], &[0, 1]],
+        &[],
+    ),
+    (
+        b"gitfan 1\ngrading 2 2\n-1000 1000\n1000 1000\nideal 0\nend\n",
+        &[&[-1000, 1000], &[1000, 1000]],
+        &[],
+    ),
+    (
+        b"gitfan 1\ngrading 2 3\n1 1 0\n0 1 1\nideal 3\n T(1) *T(3)- T(2) \r\n0\r\n32003*T(1)\nend",
+        PLANE,
+        &[b"T(1)*T(3)-T(2)", b"0", b"0"],
+    ),
+    (
+        b"gitfan 1\ngrading 1 2\n1 2\nideal 2\nT(1)^2-T(2)\n7\nend\n",
+        &[&[1], &[2]],
+        &[b"T(1)^2-T(2)", b"7"],
+    ),
+    (
+        b"gitfan 1\ngrading 3 3\n1 0 0\n0 1 0\n0 0 1\nideal 1\n-T(1)\nend\n",
+        &[&[1, 0, 0], &[0, 1, 0], &[0, 0, 1]],
+        &[b"-T(1)"],
+    ),
+    (
+        b"gitfan 1\ngrading 1 16\n1 1 1 1 1 1 1 1 1 1 1 1 1 1 1 1\nideal 1\nT(16)+T(1)\nend\n",
+        &[
+            &[1], &[1], &[1], &[1], &[1], &[1], &[1], &[1], &[1], &[1], &[1], &[1], &[1], &[1],
+            &[1], &[1],
+        ],
+        &[b"T(1)+T(16)"],
+    ),
+];
 
 #[test]
 fn right_texts_are_read(rt: HostRuntime) {
     let alloc = rt.alloc();
-    let columns = [[1, 0], [1, 1], [0, 1]];
-    assert!(rt; is_read(alloc, TEXT, &columns));
-    assert!(rt;
-        is_read(
-            alloc,
-            b"  gitfan   1 \r\n grading 2  3\r\n1 1 0 \r\n 0 1 1\r\nideal 0 \r\nend\r\n",
-            &columns
-        )
-    );
-    assert!(rt;
-        is_read(
-            alloc,
-            b"gitfan 1\ngrading 02 3\n000000000000000001 1 -0\n0 007 01\nideal -0\nend",
-            &[[1, 0], [1, 7], [0, 1]]
-        )
-    );
-    assert!(rt;
-        is_read(
-            alloc,
-            b"gitfan 1\ngrading 2 2\n-1000 1000\n1000 1000\nideal 0\nend\n",
-            &[[-1000, 1000], [1000, 1000]]
-        )
-    );
-    let sixteen = answer(
-        alloc,
-        b"gitfan 1\ngrading 2 16\n1 1 1 1 1 1 1 1 1 1 1 1 1 1 1 1\n0 1 2 3 4 5 6 7 8 9 10 11 12 13 14 15\nideal 0\nend\n",
-    );
-    assert!(rt; sixteen.is_ok_and(|input| input.grading.r() == 16));
+    for (text, columns, generators) in VALUES {
+        match answer(alloc, text) {
+            Ok(input) => {
+                assert!(rt; has_columns(&input.grading, columns));
+                assert!(rt; has_generators(alloc, &input, generators));
+            }
+            Err(fault) => assert!(rt; false, "{fault:?}"),
+        }
+    }
+    assert_eq!(rt; announced_variables(TEXT), 3);
+}
+
+/// A text, and the line, the column and the kind of its first fault.
+type Fault = (&'static [u8], u32, u32, BadKind);
+
+/// Faults of the first two lines, and of lines that are not there.
+const HEADS: [Fault; 24] = [
+    (b"", 1, 1, BadKind::Truncated),
+    (b"\n", 1, 1, BadKind::Header),
+    (b"gitfan 2\n", 1, 1, BadKind::Header),
+    (b"gitfan 01\n", 1, 1, BadKind::Header),
+    (b"  gitfan 1 1\n", 1, 1, BadKind::Header),
+    (b"gitfan\t1\n", 1, 1, BadKind::Header),
+    (b"gitfan 1\r\r\n", 1, 1, BadKind::Header),
+    (b"gitfan 1", 2, 1, BadKind::Truncated),
+    (b"gitfan 1\n", 2, 1, BadKind::Truncated),
+    (b"gitfan 1\n\n", 2, 1, BadKind::Syntax),
+    (b"gitfan 1\n  \r\n", 2, 3, BadKind::Syntax),
+    (b"gitfan 1\n grade 2 3\n", 2, 2, BadKind::Syntax),
+    (b"gitfan 1\ngrading 7 17\n", 2, 9, BadKind::Range),
+    (b"gitfan 1\ngrading 0 3\n", 2, 9, BadKind::Range),
+    (b"gitfan 1\ngrading 2 17\n", 2, 11, BadKind::Range),
+    (b"gitfan 1\ngrading 2  0 x\n", 2, 12, BadKind::Range),
+    (b"gitfan 1\ngrading +2 3\n", 2, 9, BadKind::Number),
+    (b"gitfan 1\ngrading 2 3x\n", 2, 11, BadKind::Number),
+    (b"gitfan 1\ngrading 2", 2, 10, BadKind::Count),
+    (b"gitfan 1\ngrading 2  \r\n", 2, 12, BadKind::Count),
+    (b"gitfan 1\ngrading 2 3 0\n", 2, 13, BadKind::Count),
+    (b"gitfan 1\ngrading 2 3\n", 3, 1, BadKind::Truncated),
+    (b"gitfan 1\ngrading 2 3\n1 1 0\n", 4, 1, BadKind::Truncated),
+    (b"gitfan 1\ngrading 2 3\n1 1 0\n0 1 1", 5, 1, BadKind::Truncated),
+];
+
+/// Faults of rows, of the matrix, of the number of generators and of the end.
+const REST: [Fault; 26] = [
+    (b"gitfan 1\ngrading 2 3\n1 1\n", 3, 4, BadKind::Count),
+    (b"gitfan 1\ngrading 2 3\n1 1 0 0\n", 3, 7, BadKind::Count),
+    (b"gitfan 1\ngrading 2 3\n1 1 0\n\n", 4, 1, BadKind::Count),
+    (b"gitfan 1\ngrading 2 3\n1 1001 0\n", 3, 3, BadKind::Range),
+    (b"gitfan 1\ngrading 2 3\n1 1 -1001\n", 3, 5, BadKind::Range),
+    (b"gitfan 1\ngrading 2 3\n0000000000000000001 1 0\n", 3, 1, BadKind::Number),
+    (b"gitfan 1\ngrading 2 3\n1 1 0\xa0\n", 3, 5, BadKind::Number),
+    (b"gitfan 1\ngrading 2 3\n1 1\r 0\n", 3, 3, BadKind::Number),
+    (b"gitfan 1\ngrading 2 2\n1 2\n0 0\nideals\n", 4, 1, BadKind::Rank),
+    (b"gitfan 1\ngrading 2 2\n1 -1\n0 0\nideals\n", 4, 1, BadKind::Rank),
+    (b"gitfan 1\ngrading 1 2\n0 0\n", 3, 1, BadKind::Rank),
+    (b"gitfan 1\ngrading 3 2\n1 0\n0 1\n1 1\n", 5, 1, BadKind::Rank),
+    (b"gitfan 1\ngrading 1 2\n1 -1\nideals\n", 3, 1, BadKind::Pointed),
+    (b"gitfan 1\ngrading 1 2\n1 0", 3, 1, BadKind::Pointed),
+    (b"gitfan 1\ngrading 2 3\n1 0 -1\n0 1 0\n", 4, 1, BadKind::Pointed),
+    (b"gitfan 1\ngrading 2 3\n1 1 0\n0 1 1\nideals 0\n", 5, 1, BadKind::Syntax),
+    (b"gitfan 1\ngrading 2 3\n1 1 0\n0 1 1\nideal\n", 5, 6, BadKind::Count),
+    (b"gitfan 1\ngrading 2 3\n1 1 0\n0 1 1\nideal 65\n", 5, 7, BadKind::Range),
+    (b"gitfan 1\ngrading 2 3\n1 1 0\n0 1 1\nideal 0 0\n", 5, 9, BadKind::Count),
+    (b"gitfan 1\ngrading 2 3\n1 1 0\n0 1 1\nideal 0\n", 6, 1, BadKind::Truncated),
+    (b"gitfan 1\ngrading 2 3\n1 1 0\n0 1 1\nideal 0\n end2\n", 6, 2, BadKind::Syntax),
+    (b"gitfan 1\ngrading 2 3\n1 1 0\n0 1 1\nideal 0\nend end\n\n", 6, 5, BadKind::Count),
+    (b"gitfan 1\ngrading 2 3\n1 1 0\n0 1 1\nideal 0\nend \r\r\n", 6, 5, BadKind::Count),
+    (b"gitfan 1\ngrading 2 3\n1 1 0\n0 1 1\nideal 0\nend\n\n", 7, 1, BadKind::Trailing),
+    (b"gitfan 1\ngrading 2 3\n1 1 0\n0 1 1\nideal 0\nend\r\nx", 7, 1, BadKind::Trailing),
+    (b"gitfan 1\ngrading 2 3\n1 1 0\n0 1 1\nideal 1\nend\n", 6, 1, BadKind::Syntax),
+];
+
+/// Faults of polynomials and of what stands around them.
+const POLYNOMIALS: [Fault; 12] = [
+    (b"gitfan 1\ngrading 2 3\n1 1 0\n0 1 1\nideal 1\n", 6, 1, BadKind::Truncated),
+    (b"gitfan 1\ngrading 2 3\n1 1 0\n0 1 1\nideal 1\n \r\n", 6, 2, BadKind::Syntax),
+    (b"gitfan 1\ngrading 2 3\n1 1 0\n0 1 1\nideal 1\n2T(1)\n", 6, 2, BadKind::Syntax),
+    (b"gitfan 1\ngrading 2 3\n1 1 0\n0 1 1\nideal 1\nT(1\r\n", 6, 4, BadKind::Syntax),
+    (b"gitfan 1\ngrading 2 3\n1 1 0\n0 1 1\nideal 1\nT(4)\n", 6, 1, BadKind::Variable),
+    (b"gitfan 1\ngrading 2 3\n1 1 0\n0 1 1\nideal 1\n2*T(0)\n", 6, 3, BadKind::Variable),
+    (b"gitfan 1\ngrading 2 3\n1 1 0\n0 1 1\nideal 1\nT(1)^65\n", 6, 1, BadKind::Range),
+    (b"gitfan 1\ngrading 2 3\n1 1 0\n0 1 1\nideal 1\n +T(1)^40*T(1)^25\n", 6, 3, BadKind::Range),
+    (b"gitfan 1\ngrading 2 3\n1 1 0\n0 1 1\nideal 2\n0\nT(1)+\n", 7, 6, BadKind::Syntax),
+    (b"gitfan 1\ngrading 2 3\n1 1 0\n0 1 1\nideal 2\n0\nend\n", 7, 1, BadKind::Syntax),
+    (b"gitfan 1\ngrading 2 3\n1 1 0\n0 1 1\nideal 1\n0\n0\nend\n", 7, 1, BadKind::Syntax),
+    (b"gitfan 1\ngrading 2 3\n1 1 0\n0 1 1\nideal 1\n0\n", 7, 1, BadKind::Truncated),
+];
+
+#[test]
+fn the_first_fault_is_named(rt: HostRuntime) {
+    let alloc = rt.alloc();
+    for table in [HEADS.as_slice(), REST.as_slice(), POLYNOMIALS.as_slice()] {
+        for (text, line, column, kind) in table {
+            let wanted = InputFault::Bad {
+                line: *line,
+                column: *column,
+                kind: *kind,
+            };
+            assert_eq!(rt; fault_of(alloc, text), Some(wanted));
+        }
+    }
 }
 
 #[test]
-fn wrong_texts_are_bad(rt: HostRuntime) {
+fn monomials_of_two_degrees_are_named(rt: HostRuntime) {
     let alloc = rt.alloc();
-    for text in [
-        b"".as_slice(),
-        b"gitfan 2\ngrading 2 3\n1 1 0\n0 1 1\nideal 0\nend\n",
-        b"gitfan 1 1\ngrading 2 3\n1 1 0\n0 1 1\nideal 0\nend\n",
-        b"gitfan 1\0\ngrading 2 3\n1 1 0\n0 1 1\nideal 0\nend\n",
-        b"gitfan\t1\ngrading 2 3\n1 1 0\n0 1 1\nideal 0\nend\n",
-        b"gitfan 1\ngrading 7 3\n1 1 0\n0 1 1\nideal 0\nend\n",
-        b"gitfan 1\ngrading 3 17\n",
-        b"gitfan 1\ngrading 2 17\n1 1 1 1 1 1 1 1 1 1 1 1 1 1 1 1 1\n0 1 2 3 4 5 6 7 8 9 10 11 12 13 14 15 16\nideal 0\nend\n",
-        b"gitfan 1\ngrading 2 3 0\n1 1 0\n0 1 1\nideal 0\nend\n",
-        b"gitfan 1\ngrading 2 3\n1 1\n0 1 1\nideal 0\nend\n",
-        b"gitfan 1\ngrading 2 3\n1 1 0 0\n0 1 1\nideal 0\nend\n",
-        b"gitfan 1\ngrading 2 3\n1 +1 0\n0 1 1\nideal 0\nend\n",
-        b"gitfan 1\ngrading 2 3\n1 1001 0\n0 1 1\nideal 0\nend\n",
-        b"gitfan 1\ngrading 2 3\n1 1 -1001\n0 1 1\nideal 0\nend\n",
-        b"gitfan 1\ngrading 2 3\n0000000000000000001 1 0\n0 1 1\nideal 0\nend\n",
-        b"gitfan 1\ngrading 2 3\n1 1 0\xa0\n0 1 1\nideal 0\nend\n",
-        b"gitfan 1\ngrading 2 3\n1 0 0\n0 0 1\nideal 0\nend\n",
-        b"gitfan 1\ngrading 2 2\n1 2\n0 0\nideal 0\nend\n",
-        b"gitfan 1\ngrading 2 3\n1 -1 0\n0 0 1\nideal 0\nend\n",
-        b"gitfan 1\ngrading 2 2\n1 2\n0 0\nideal 1\n",
-        b"gitfan 1\ngrading 2 3\n1 1 0\n0 1 1\nideal 65\n",
-        b"gitfan 1\ngrading 2 3\n1 1 0\n0 1 1\nideal 0 0\nend\n",
-        b"gitfan 1\ngrading 2 3\n1 1 0\n0 1 1\nideal 0\nend end\n",
-        b"gitfan 1\ngrading 2 3\n1 1 0\n0 1 1\nideal 0\nend\r\r\n",
-        b"gitfan 1\ngrading 2 3\n1 1 0\n0 1 1\nideal 0\nend\n\n",
-        b"gitfan 1\ngrading 2 3\n1 1 0\n0 1 1\n\nideal 0\nend\n",
-    ] {
-        assert_eq!(rt; fault_of(alloc, text), Some(InputFault::Bad));
-    }
+    let variable = |i: usize| Mono::power(i, 1).unwrap_or(Mono::one());
+    let product = variable(0).times(&variable(2)).unwrap_or(Mono::one());
+    let bad = |line: u32, generator: u32, first: Mono, second: Mono| {
+        Some(InputFault::Bad {
+            line,
+            column: 1,
+            kind: BadKind::Homogeneous {
+                generator,
+                first,
+                second,
+            },
+        })
+    };
+    assert_eq!(rt;
+        fault_of(alloc, b"gitfan 1\ngrading 2 3\n1 1 0\n0 1 1\nideal 1\nT(1)+T(2)\n"),
+        bad(6, 1, variable(0), variable(1))
+    );
+    assert_eq!(rt;
+        fault_of(
+            alloc,
+            b"gitfan 1\ngrading 2 3\n1 1 0\n0 1 1\nideal 2\n0\n 1 + T(3) + T(2) + T(1)*T(3)\n"
+        ),
+        bad(7, 2, product, variable(2))
+    );
 }
 
 #[test]
@@ -114,26 +240,7 @@ fn a_text_that_is_cut_off_is_bad(rt: HostRuntime) {
     let alloc = rt.alloc();
     let text = TEXT;
     for end in 0..text.len() {
-        let wanted = if end + 1 == text.len() {
-            None
-        } else {
-            Some(InputFault::Bad)
-        };
-        assert_eq!(rt; fault_of(alloc, &text[..end]), wanted);
-    }
-}
-
-#[test]
-fn other_ranks_and_generators_are_not_built(rt: HostRuntime) {
-    let alloc = rt.alloc();
-    for text in [
-        b"gitfan 1\ngrading 3 3".as_slice(),
-        b"gitfan 1\ngrading 3 3\n\xff\0",
-        b"gitfan 1\ngrading 6 16\nend\n",
-        b"gitfan 1\ngrading 1 2\n1 2\nideal 0\nend\n",
-        b"gitfan 1\ngrading 2 3\n1 1 0\n0 1 1\nideal 1\n\xff\0",
-        b"gitfan 1\ngrading 2 3\n1 1 0\n0 1 1\nideal 64",
-    ] {
-        assert_eq!(rt; fault_of(alloc, text), Some(InputFault::NotBuilt));
+        let whole = end + 1 == text.len();
+        assert_eq!(rt; fault_of(alloc, &text[..end]).is_none(), whole);
     }
 }

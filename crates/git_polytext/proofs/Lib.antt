@@ -1,0 +1,15 @@
+pub mod Bounds
+pub mod Columns
+pub mod ReadLoops
+pub mod ExactSigns
+pub mod ExactTerms
+pub mod ExactLines
+pub mod Graded
+pub mod Halves
+pub mod PrintLoops
+pub mod PowersBack
+pub mod Sizes
+pub mod TextBytes
+pub mod SignTexts
+pub mod PartTexts
+pub mod ReadBack

@@ -1,0 +1,39 @@
+-- What holds of the lines of polynomials.
+use Rattle.std.specs.Prelude.{◌≡◌, ℕ, ◌≤◌, ◌<◌, ◌^◌, ◌&&◌, ◌==◌, not, true, List, length, Ok}
+use Rattle.std.specs.List.{list_all}
+use Rattle.git_defs.specs.Vectors.{Vector}
+use Rattle.git_algebra.specs.Exponents.{Exponents, exponent}
+use Rattle.git_algebra.specs.Polynomials.{Polynomial}
+use Rattle.git_poly.specs.Degrees.{HasMonomial, AreGradedBy}
+use Rattle.git_polytext.specs.Reading.{polynomial_line}
+use Rattle.git_polytext.specs.Grammar.{IsPolynomialLine}
+use Rattle.git_polytext.specs.Printing.{polynomial_text}
+
+-- the value that is read of a line is that of the grammar
+abbrev pub LinesReadAreLines : Type 0
+LinesReadAreLines = (r line : ℕ) (content : List ℕ) (p : Polynomial) → polynomial_line r line content ≡ Ok p → IsPolynomialLine r content p
+
+-- the value that a line has in the grammar is read of it, where there are at most sixteen variables
+abbrev pub LinesAreRead : Type 0
+LinesAreRead = (r line : ℕ) (content : List ℕ) (p : Polynomial) → r ≤ 16 → IsPolynomialLine r content p → polynomial_line r line content ≡ Ok p
+
+-- a line has one value at most
+abbrev pub LinesHaveOneValue : Type 0
+LinesHaveOneValue = (r : ℕ) (content : List ℕ) (p q : Polynomial) → r ≤ 16 → IsPolynomialLine r content p → IsPolynomialLine r content q → p ≡ q
+
+-- the monomials of a line are ones in its variables, with exponents of at most 64
+abbrev pub LinesAreGraded : Type 0
+LinesAreGraded = (columns : List Vector) (content : List ℕ) (p : Polynomial) → IsPolynomialLine (length columns) content p → AreGradedBy columns p
+
+-- a polynomial of at most two hundred such monomials is read back from its text
+abbrev pub PolynomialsAreReadBack : Type 0
+PolynomialsAreReadBack = (columns : List Vector) (p : Polynomial) → length columns ≤ 16 → AreGradedBy columns p → length p.terms ≤ 200
+    → IsPolynomialLine (length columns) (polynomial_text p) p
+
+-- no space, no line feed and no carriage return
+abbrev pub IsPlain : List ℕ → Type 0
+IsPlain text = list_all (λ b. not (b == 32) && not (b == 10) && not (b == 13)) text ≡ true
+
+-- the text of a polynomial whose exponents have at most eighteen digits is one line without spaces
+abbrev pub PolynomialTextsArePlain : Type 0
+PolynomialTextsArePlain = (p : Polynomial) → ((a : Exponents) (i : ℕ) → HasMonomial p a → exponent a i < 10 ^ 18) → IsPlain (polynomial_text p)
