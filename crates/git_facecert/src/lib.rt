@@ -4,17 +4,20 @@
 //! an accepted certificate tells the truth is a law of this crate.
 #![tactic(auto)]
 
-mod accept;
 mod certificate;
 mod face;
 mod free;
+mod judging;
 mod laws;
 mod monomial;
 
-pub use accept::accept_for;
-pub use certificate::{Accepted, FaceCert, FaceVerdict, Place};
+pub use certificate::{Accepted, CERT_DEGREE, CERT_POWER, FaceCert, FaceVerdict, Place};
+pub use judging::accept;
 pub use laws::{
     accepted_free_certificates_show_a_faces, accepted_monomial_certificates_show_none,
     certificates_have_one_answer,
 };
 
+
+#[cfg(test)]
+mod tests;

@@ -8,13 +8,11 @@ use crate::free::accept_free;
 use crate::monomial::accept_monomial;
 use git_base::NoMemory;
 use git_poly::Poly;
+use git_text::Input;
 use std::alloc::Global;
 
 /// Whether a certificate of the face is accepted for these generators, or the place of its first line that fails.
-///
-/// The mask has bit `i` for the variable at place `i`. There are fewer than 2^32 generators, each of total degree at
-/// most 2^25, and fewer than 2^32 cofactors or members.
-pub fn accept_for(
+fn accept_for(
     alloc: Global,
     generators: &[Poly],
     mask: u16,
@@ -31,4 +29,19 @@ pub fn accept_for(
         }
         FaceCert::Free { basis } => accept_free(alloc, generators, mask, basis),
     }
+}
+
+/// Whether a certificate of the face is accepted for the input's generators, or the place of its first line that fails.
+///
+/// The mask has bit `i` for the variable at place `i`. There are fewer than 2^32 cofactors or members.
+pub fn accept(
+    alloc: Global,
+    input: &Input,
+    mask: u16,
+    cert: &FaceCert,
+) -> Result<Accepted, NoMemory>
+    requires { IsOfFewLines cert.now }
+    ensures { IfOk result (λ a. IsAnswer input.now.generators mask cert.now a) }
+{
+    accept_for(alloc, &input.generators, mask, cert)
 }
