@@ -3,9 +3,9 @@ use Rattle.std.proofs.Common.{zero, suc, ℕ, ◌+◌, ◌%◌, [], ◌∷◌, �
 use Rattle.std.specs.declared.cmp.Ordering.{Ordering}
 use Rattle.std.specs.declared.cmp.Ordering.TheVariants.{Less, Equal, Greater}
 use Rattle.std.specs.Ordering.{nat_cmp}
-use Rattle.git_algebra.specs.Exponents.{Exponents, times}
+use Rattle.git_algebra.specs.Exponents.{Exponents}
 use Rattle.git_algebra.specs.Order.{rank}
-use Rattle.git_algebra.specs.Sums.{Sum, shift}
+use Rattle.git_algebra.specs.Sums.{Sum}
 use Rattle.git_algebra.specs.Polynomials.{normal, normal_list, put, put_by, entry}
 
 abbrev pub Every : (Exponents → Type 0) → Sum → Type 0

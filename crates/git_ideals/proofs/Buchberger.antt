@@ -134,21 +134,26 @@ lead_of_terms p t e = record {
   above = lead_below p t e;
 }
 
+lead_is : {basis : List Polynomial} (g : Member) (k : MemberOf basis g) → g.lead ≡ k.lead.0
+unfolding member_of
+lead_is g k = ap (λ (m : Member). m.lead) k.same
+
+some_lead : {basis : List Polynomial} (m : Exponents) → Divisor (MemberOf basis) m → SomeLeadDivides basis m
+some_lead m d = record {
+  place = d.inside.place;
+  divides = record {
+    lead = d.inside.lead;
+    is_lead = d.inside.is_lead;
+    divides = record { cofactor = d.factor; product = times_comm d.inside.lead.0 d.factor ∙ ap (times d.factor) (sym (lead_is d.member d.inside)) ∙ d.multiple };
+  };
+}
+
 -- the criterion for sums
 pub sums_criterion : (basis : List Polynomial) → AreNonzero basis → PairsDivide basis → (p : Sum) → SumInIdeal (terms_of basis) p → (m : Exponents) → Lead p m → SomeLeadDivides basis m
-unfolding member_of
 sums_criterion basis nonzero pairs p inside m lead =
     let k : SomeReps (MemberOf basis) (sum_combination inside.cofactors (terms_of basis)) = some_combination basis nonzero inside.cofactors (terms_of basis) 0
-        (λ j lt. (member_terms basis j (omega (arith, length-terms_of basis, lt)) ∙ ap (λ n. (member basis n).terms) (let e : j ≡ 0 + j = omega arith in e), omega (arith, length-terms_of basis, lt))) in
-    let d : Divisor (MemberOf basis) m = criterion (closed_from (any_two basis pairs)) k.bound p (reps_alike k.reps inside.sums) m lead in
-    record {
-      place = d.inside.place;
-      divides = record {
-        lead = d.inside.lead;
-        is_lead = d.inside.is_lead;
-        divides = record { cofactor = d.factor; product = times_comm d.inside.lead.0 d.factor ∙ ap (λ (g : Member). times d.factor g.lead) (sym d.inside.same) ∙ d.multiple };
-      };
-    }
+    (λ j lt. (member_terms basis j (omega (arith, length-terms_of basis, lt)) ∙ ap (λ n. (member basis n).terms) (let e : j ≡ 0 + j = omega arith in e), omega (arith, length-terms_of basis, lt))) in
+    some_lead m (criterion (closed_from (any_two basis pairs)) k.bound p (reps_alike k.reps inside.sums) m lead)
 
 pub buchberger : (basis : List Polynomial) → AreNonzero basis → PairsDivide basis → (p : Polynomial) → InIdeal basis p → (lead : Exponents × ℕ) → lead_of p ≡ Some lead → SomeLeadDivides basis lead.0
 buchberger basis nonzero pairs p inside lead e = sums_criterion basis nonzero pairs p.terms (to_sums basis p inside) lead.0 (lead_of_terms p lead e)

@@ -9,3 +9,6 @@ mod pairs;
 
 pub use division::{Division, divide, divides_to_zero};
 pub use pairs::s_poly;
+
+#[cfg(test)]
+mod tests;

@@ -1,4 +1,3 @@
-use Rattle.git_ideals.specs.Division.{IsDivision}
 use Rattle.git_ideals.proofs.Divisions.{sum_of_division, one_division, to_zero}
 use Rattle.git_ideals.proofs.division_gives_quotients_and_rest.Goals as goal
 

@@ -29,8 +29,7 @@ pub returns-in_err-first-clause-degree : goal.returns-in_err-first-clause-degree
 returns-in_err-first-clause-degree c =
     let p = err_from_is_err_and c.from_residual.result c.from_residual.ensures.1 in
     let lead = sym c.lead.ensures.lead ∙ c.unwrap-top.ensures in
-    let not_above : 67108864 < degree (lcm c.unwrap-top.result.0 c.unwrap-other.result.0) → ⊥ = λ h. let e = c.in-Some.ensures.none.1 h in absurd cc in
-    (
+    let not_above : 67108864 < degree (lcm c.unwrap-top.result.0 c.unwrap-other.result.0) → ⊥ = λ h. let e = c.in-Some.ensures.none.1 h in absurd cc in (
       λ e. absurd (not_above (subst (λ (m : Exponents). 67108864 < degree m) c.in-Some.ensures.some
           (raised_degree 67108864 c.args.f.now c.unwrap-top.result c.in-Some.multiple c.quotient.result lead (first_divides c.in-Some.multiple c.unwrap-top.result.0 c.unwrap-other.result.0 c.in-Some.ensures.some) c.quotient.ensures
           (c.in_err-first.ensures.degree.0 (ap Err (sym p.2) ∙ sym p.1 ∙ e)).2))),
@@ -40,8 +39,7 @@ returns-in_err-first-clause-degree c =
 pub returns-clause-degree : goal.returns-clause-degree
 returns-clause-degree c =
     let other = sym c.lead-2.ensures.lead ∙ c.unwrap-other.ensures in
-    let not_above : 67108864 < degree (lcm c.unwrap-top.result.0 c.unwrap-other.result.0) → ⊥ = λ h. let e = c.in-Some.ensures.none.1 h in absurd cc in
-    (
+    let not_above : 67108864 < degree (lcm c.unwrap-top.result.0 c.unwrap-other.result.0) → ⊥ = λ h. let e = c.in-Some.ensures.none.1 h in absurd cc in (
       λ e. absurd (not_above (subst (λ (m : Exponents). 67108864 < degree m) c.in-Some.ensures.some
           (raised_degree 67108864 c.args.g.now c.unwrap-other.result c.in-Some.multiple c.quotient-2.result other (second_divides c.in-Some.multiple c.unwrap-top.result.0 c.unwrap-other.result.0 c.in-Some.ensures.some) c.quotient-2.ensures
           (c.minus_times.ensures.degree.0 e).2))),
