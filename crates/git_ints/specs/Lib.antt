@@ -3,3 +3,4 @@ pub mod Order
 pub mod Content
 pub mod Plane
 pub mod Gradings
+pub mod Tables

@@ -1,11 +1,13 @@
 //! Gradings: matrices whose columns span, and whose cone is pointed.
-ghost use Rattle.std.specs.Prelude.{◌≡◌, ◌≤◌, ◌<◌, ◌^◌, ◌↔◌, ℕ, length, slice_get, Some, IfOk, IsErrOf, IsTrue, All};
-ghost use Rattle.git_defs.specs.Vectors.{AllOfLength, HasRank, HasZeroSum};
+ghost use Rattle.std.specs.Prelude.{◌≡◌, ◌≤◌, ◌<◌, ◌^◌, ◌↔◌, ℕ, length, slice_get, Some, IfOk, IsErrOf, IsTrue};
+ghost use Rattle.git_defs.specs.Vectors.{HasRank, HasZeroSum};
 ghost use Rattle.git_defs.specs.Faces.{IsFull};
-ghost use Rattle.git_ints.specs.Padded.{AreWithin};
 ghost use Rattle.git_ints.specs.Gradings.{IsMatrix, IsGrading};
+ghost use Rattle.git_ints.specs.Tables.{HasWithin};
 
-use crate::plane::{has_turns, has_wedge};
+use crate::bases::{bases, has_circuit};
+use crate::fault::GradingFault;
+use crate::minors::minors;
 use crate::vector::IVec;
 use std::alloc::Global;
 use std::marker::Model;
@@ -17,46 +19,45 @@ use std::marker::Model;
 pub struct Grading {
     k: usize,
     columns: Vec<IVec>,
+    /// The faces of `k` independent columns.
+    bases: Vec<u16>,
 }
 
 impl Model for Grading {
     ghost use Rattle.git_ints.specs.Gradings.{Degrees, IsGrading};
+    ghost use Rattle.git_ints.specs.Tables.{AreBases};
 
     ghost Value = { Degrees };
 
     ghost view = { λ g. record { k = g.k; columns = g.columns.items } };
 
-    ghost invariant = { λ g. IsGrading g.k g.columns.items };
-}
-
-/// Why columns are no grading.
-#[derive(Clone, Copy, Debug, PartialEq, Eq)]
-pub enum GradingFault {
-    /// Fewer columns are independent than there are rows.
-    Rank,
-    /// Natural numbers, not all 0, make the columns sum to 0.
-    Pointed,
-    /// Memory ran out.
-    NoMemory,
+    ghost invariant = { λ g. IsGrading g.k g.columns.items × AreBases g.k g.columns.items g.bases.items };
 }
 
 impl Grading {
-    /// The grading with `k` rows and these columns. So far `k` has to be 2.
-    pub fn of(_alloc: Global, k: usize, columns: Vec<IVec>) -> Result<Grading, GradingFault>
-        requires two { k ≡ 2 }
-        requires matrix { IsMatrix k columns.items }
+    /// The grading with `k` rows and these columns.
+    ///
+    /// # Errors
+    ///
+    /// - `Rank`: no `k` of the columns are independent.
+    /// - `Pointed`: some `k` are, and natural numbers, not all 0, make the columns sum to 0.
+    /// - `NoMemory`: memory ran out.
+    pub fn of(alloc: Global, k: usize, columns: Vec<IVec>) -> Result<Grading, GradingFault>
+        requires { IsMatrix k columns.items }
         ensures value { IfOk result (λ g. (g.k ≡ k) × (g.columns ≡ columns.items)) }
         ensures grading { IfOk result (λ g. IsGrading k columns.items) }
         ensures rank { IsErrOf result GradingFault.Rank → (HasRank k columns.items → ⊥) }
         ensures pointed { IsErrOf result GradingFault.Pointed → HasRank k columns.items × HasZeroSum k columns.items }
     {
-        if !has_turns(&columns, u16::MAX) {
+        let minors = minors(alloc, k, &columns)?;
+        let bases = bases(alloc, k, &columns, &minors)?;
+        if bases.is_empty() {
             return Err(GradingFault::Rank);
         }
-        if !has_wedge(&columns) {
+        if has_circuit(k, &columns, &minors) {
             return Err(GradingFault::Pointed);
         }
-        Ok(Grading { k, columns })
+        Ok(Grading { k, columns, bases })
     }
 
     /// The number of rows.
@@ -92,12 +93,23 @@ impl Grading {
     }
 
     /// Whether as many columns of the face as there are rows are independent. Bit `i` of the mask stands
-    /// for column `i`, and no bit past the columns is set. So far the grading has to have two rows.
+    /// for column `i`, and no bit past the columns is set.
     pub fn full(&self, mask: u16) -> bool
-        requires two { self.now.k ≡ 2 }
-        requires in_range { mask < 2 ^ length self.now.columns }
+        requires { mask < 2 ^ length self.now.columns }
         ensures { IsTrue result ↔ IsFull self.now.k self.now.columns mask }
     {
-        has_turns(&self.columns, mask)
+        has_basis(&self.bases, mask)
     }
+}
+
+/// Whether one of the bases lies within the mask.
+fn has_basis(bases: &[u16], mask: u16) -> bool
+    ensures { IsTrue result ↔ HasWithin bases.now mask }
+{
+    for basis in bases {
+        if *basis & mask == *basis {
+            return true;
+        }
+    }
+    false
 }

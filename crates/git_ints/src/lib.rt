@@ -4,12 +4,16 @@
 #![tactic(auto)]
 
 mod arithmetic;
+mod bases;
 mod content;
+mod fault;
 mod grading;
+mod minors;
 mod plane;
 mod vector;
 
-pub use grading::{Grading, GradingFault};
+pub use fault::GradingFault;
+pub use grading::Grading;
 pub use plane::turn;
 pub use vector::IVec;
 

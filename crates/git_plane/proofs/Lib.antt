@@ -1,3 +1,6 @@
+pub mod ZeroSums
+pub mod PlaneRanks
+pub mod Wedges
 pub mod Turns
 pub mod PairCones
 pub mod Directions
