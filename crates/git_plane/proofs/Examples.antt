@@ -10,7 +10,7 @@ use Rattle.git_defs.specs.Listings.{Chamber, RaysPrecede, boundary, inner}
 use Rattle.git_defs.specs.Vectors.{IsPrimitive, Precedes, Vector, dot, scale}
 use Rattle.git_geometry.proofs.Primitive.{scale_divides}
 use Rattle.git_plane.proofs.PlaneRanks.{turns_rank}
-use Rattle.git_plane.proofs.ZeroSums.{positive_no_zero_sum}
+use Rattle.git_geometry.proofs.ZeroSums.{positive_no_zero_sum}
 use Rattle.git_ints.specs.Content.{IsPrimitivePart}
 use Rattle.git_ints.specs.Gradings.{IsGrading}
 use Rattle.git_ints.specs.Padded.{AreWithin}

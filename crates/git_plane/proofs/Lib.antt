@@ -1,4 +1,3 @@
-pub mod ZeroSums
 pub mod PlaneRanks
 pub mod Wedges
 pub mod Turns

@@ -13,7 +13,7 @@ use Rattle.git_minors.proofs.Parts.{face_member, face_of_length}
 use Rattle.git_plane.proofs.PlaneRanks.{rank_turns, turns_rank}
 use Rattle.git_ints.proofs.Turns.{turn-swap}
 use Rattle.git_plane.proofs.Wedges.{wedge_or_zero_sum}
-use Rattle.git_plane.proofs.ZeroSums.{positive_no_zero_sum}
+use Rattle.git_geometry.proofs.ZeroSums.{positive_no_zero_sum}
 use Rattle.git_ints.specs.Plane.{turn}
 use Rattle.git_plane.specs.Wedges.{HasTurns, HasWedge, LiesBetween}
 use Rattle.git_plane.proofs.Chambers.{IsPairCone}
