@@ -27,3 +27,4 @@ pub mod Facets
 pub mod Extreme
 pub mod Dropping
 pub mod Examples
+pub mod ZeroSums

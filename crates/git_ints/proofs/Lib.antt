@@ -3,12 +3,7 @@ pub mod Dots
 pub mod Padding
 pub mod Contents
 pub mod Built
-pub mod ZeroSums
 pub mod Turns
-pub mod Wedges
-pub mod PlaneRanks
-pub mod Ends
-pub mod PlaneGradings
 pub mod Walks
 pub mod Tables
 pub mod OneSided

@@ -14,8 +14,8 @@ use Rattle.git_geometry.proofs.Independence.{chosen_member, chosen_of_length, no
 use Rattle.git_geometry.proofs.Primitive.{primitive_nonzero}
 use Rattle.git_geometry.proofs.Rays.{extreme_along, primitive_of_ray, ray_of_generator, rays_along, same_back, same_through}
 use Rattle.git_geometry.proofs.Sorted.{rays_once}
-use Rattle.git_ints.proofs.PlaneRanks.{turns_rank}
-use Rattle.git_ints.specs.Plane.{HasWedge}
+use Rattle.git_plane.proofs.PlaneRanks.{turns_rank}
+use Rattle.git_plane.specs.Wedges.{HasWedge}
 use Rattle.git_plane.proofs.Chambers.{ArePairCones, chamber_of_between}
 use Rattle.git_plane.proofs.Directions.{AreAhead, direction_once, generic_ahead, neighbours_hold, neighbours_open}
 use Rattle.git_plane.proofs.PairCones.{Opens, each_of_two, inside_of_pair, two_have}

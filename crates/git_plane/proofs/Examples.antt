@@ -9,8 +9,8 @@ use Rattle.git_defs.proofs.Members.{Member, OfLength, contains_member, member_al
 use Rattle.git_defs.specs.Listings.{Chamber, RaysPrecede, boundary, inner}
 use Rattle.git_defs.specs.Vectors.{IsPrimitive, Precedes, Vector, dot, scale}
 use Rattle.git_geometry.proofs.Primitive.{scale_divides}
-use Rattle.git_ints.proofs.PlaneRanks.{turns_rank}
-use Rattle.git_ints.proofs.ZeroSums.{positive_no_zero_sum}
+use Rattle.git_plane.proofs.PlaneRanks.{turns_rank}
+use Rattle.git_geometry.proofs.ZeroSums.{positive_no_zero_sum}
 use Rattle.git_ints.specs.Content.{IsPrimitivePart}
 use Rattle.git_ints.specs.Gradings.{IsGrading}
 use Rattle.git_ints.specs.Padded.{AreWithin}

@@ -4,10 +4,10 @@ use Rattle.std.proofs.lemmas.Int.{ints}
 use Rattle.git_defs.proofs.Linear.{dot-comm, dot-plus, length-plus}
 use Rattle.git_defs.proofs.Members.{Member, OfLength, all_member, all_of_length, contains_member}
 use Rattle.git_defs.specs.Vectors.{HasZeroSum, Vector, plus}
-use Rattle.git_ints.proofs.PlaneRanks.{rank_turns}
-use Rattle.git_ints.proofs.Wedges.{wedge_or_zero_sum}
+use Rattle.git_plane.proofs.PlaneRanks.{rank_turns}
+use Rattle.git_plane.proofs.Wedges.{wedge_or_zero_sum}
 use Rattle.git_ints.specs.Gradings.{IsGrading}
-use Rattle.git_ints.specs.Plane.{HasWedge, LiesBetween}
+use Rattle.git_plane.specs.Wedges.{HasWedge, LiesBetween}
 use Rattle.git_plane.proofs.Turns.{IsAhead, dot-left, dot-right, length-left, length-right}
 use Rattle.git_plane.specs.PlaneListings.{quarter_left, quarter_right}
 

@@ -1,3 +1,5 @@
+pub mod PlaneRanks
+pub mod Wedges
 pub mod Turns
 pub mod PairCones
 pub mod Directions

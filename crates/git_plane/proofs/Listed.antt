@@ -15,7 +15,8 @@ use Rattle.git_defs.specs.Vectors.{Vector, dot, plus, scale, vector_sum}
 use Rattle.git_geometry.proofs.Identities.{plus-comm}
 use Rattle.git_geometry.proofs.Rays.{dual_along, rays_along, same_back}
 use Rattle.git_ints.proofs.Turns.{turn-self}
-use Rattle.git_ints.specs.Plane.{HasWedge, turn}
+use Rattle.git_ints.specs.Plane.{turn}
+use Rattle.git_plane.specs.Wedges.{HasWedge}
 use Rattle.git_plane.proofs.Chambers.{ArePairCones, chamber_of_between}
 use Rattle.git_plane.proofs.Directions.{AreAhead, HasDirection, IsMultiple, direction_in, generic_ahead, multiple_turns, neighbours_hold, neighbours_open, turns_of_multiple}
 use Rattle.git_plane.proofs.PairCones.{Opens, each_of_two, inside_of_pair, member_pair, pair_facets, pair_has_high, pair_has_low, pair_member, pair_rays}

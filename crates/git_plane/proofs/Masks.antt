@@ -1,15 +1,9 @@
 -- The face of the columns that pass a test.
-use Rattle.std.proofs.Common.{◌≡◌, ◌+◌, ◌<◌, ◌≤◌, ◌*◌, ◌^◌, ◌%◌, ◌/◌, ◌⊎◌, ◌∷◌, [], List, arith, inl, inr, length, refl, subst, suc, sym, zero, ap, ◌∙◌, ℕ}
+use Rattle.std.proofs.Common.{◌≡◌, ◌+◌, ◌<◌, ◌≤◌, ◌*◌, ◌^◌, ◌/◌, ◌⊎◌, ◌∷◌, [], List, arith, inl, inr, length, refl, subst, suc, sym, ℕ}
 use Rattle.git_defs.proofs.Members.{Member}
 use Rattle.git_defs.specs.Faces.{face}
 use Rattle.git_defs.specs.Vectors.{Vector}
-use Rattle.git_ints.proofs.Ends.{face_from_with, face_from_without}
-
-face_with : (q : Vector) (qs : List Vector) (m : ℕ) → m % 2 ≡ 1 → face (q ∷ qs) m ≡ q ∷ face qs (m / 2)
-face_with q qs m odd = face_from_with (q ∷ qs) 0 m q (omega arith) refl odd
-
-face_without : (q : Vector) (qs : List Vector) (m : ℕ) → (m % 2 ≡ 1 → ⊥) → face (q ∷ qs) m ≡ face qs (m / 2)
-face_without q qs m even = face_from_without (q ∷ qs) 0 m q (omega arith) even
+use Rattle.git_minors.proofs.Parts.{face_even, face_odd, face_skip, face_with, odd_or_even}
 
 -- the mask of all columns that pass the test
 pub record IsMaskOf (P : Vector → Type 0) (qs : List Vector) (mask : ℕ) : Type 0 where
@@ -18,21 +12,14 @@ pub record IsMaskOf (P : Vector → Type 0) (qs : List Vector) (mask : ℕ) : Ty
   pub all : (v : Vector) → Member v qs → P v → Member v (face qs mask)
   pub greatest : (m : ℕ) → m < 2 ^ length qs → ((v : Vector) → Member v (face qs m) → P v) → m ≤ mask
 
-odd_or_even : (m : ℕ) → (m % 2 ≡ 1) ⊎ (m % 2 ≡ 1 → ⊥)
-odd_or_even zero = inr (λ e. omega (arith, e))
-odd_or_even (suc m) = elim (odd_or_even m) [
-  | inl e ↦ inr (λ f. omega (arith, e, f))
-  | inr e ↦ inl (omega (arith, e))
-]
-
 more_masks : (q : Vector) (qs : List Vector) → 2 ^ length (q ∷ qs) ≡ 2 * 2 ^ length qs
 more_masks q qs = let e : 2 ^ suc (length qs) ≡ 2 * 2 ^ length qs = omega arith in e
 
 -- the columns after the first in the face
 later : (q : Vector) (qs : List Vector) (m : ℕ) (v : Vector) → Member v (face qs (m / 2)) → Member v (face (q ∷ qs) m)
 later q qs m v k = elim (odd_or_even m) [
-  | inl odd ↦ subst (Member v) (sym (face_with q qs m odd)) (inr k)
-  | inr even ↦ subst (Member v) (sym (face_without q qs m even)) k
+  | inl odd ↦ subst (Member v) (sym (face_odd q qs m odd)) (inr k)
+  | inr even ↦ subst (Member v) (sym (face_even q qs m even)) k
 ]
 
 with_first : (P : Vector → Type 0) (q : Vector) (qs : List Vector) (r : ℕ) → P q → IsMaskOf P qs r → IsMaskOf P (q ∷ qs) (2 * r + 1)
@@ -43,7 +30,7 @@ with_first P q qs r p h = record {
   greatest = λ m b each. (let g = h.greatest (m / 2) (omega (arith, b, more_masks q qs)) (λ v k. each v (later q qs m v k)) in omega (arith, g));
 } where
   is : face (q ∷ qs) (2 * r + 1) ≡ q ∷ face qs r
-  is = face_with q qs (2 * r + 1) (omega arith) ∙ ap (λ (k : ℕ). q ∷ face qs k) (let e : (2 * r + 1) / 2 ≡ r = omega arith in e)
+  is = face_with q qs r
 
   passes : (v : Vector) → Member v (q ∷ face qs r) → P v
   passes v (inl e) = subst P e p
@@ -61,7 +48,7 @@ without_first P q qs r miss h = record {
   greatest = greatest;
 } where
   is : face (q ∷ qs) (2 * r) ≡ face qs r
-  is = face_without q qs (2 * r) (λ e. omega (arith, e)) ∙ ap (face qs) (let e : (2 * r) / 2 ≡ r = omega arith in e)
+  is = face_skip q qs r
 
   all : (v : Vector) → Member v (q ∷ qs) → P v → Member v (face qs r)
   all v (inl e) k = absurd (miss (subst P (sym e) k))
@@ -69,7 +56,7 @@ without_first P q qs r miss h = record {
 
   greatest : (m : ℕ) → m < 2 ^ length (q ∷ qs) → ((v : Vector) → Member v (face (q ∷ qs) m) → P v) → m ≤ 2 * r
   greatest m b each = elim (odd_or_even m) [
-    | inl odd ↦ absurd (miss (each q (subst (Member q) (sym (face_with q qs m odd)) (inl refl))))
+    | inl odd ↦ absurd (miss (each q (subst (Member q) (sym (face_odd q qs m odd)) (inl refl))))
     | inr even ↦ (let g = h.greatest (m / 2) (omega (arith, b, more_masks q qs)) (λ v k. each v (later q qs m v k)) in omega (arith, g, even))
   ]
 

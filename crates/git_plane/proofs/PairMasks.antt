@@ -9,12 +9,13 @@ use Rattle.git_defs.specs.Cones.{InCone, SameSet}
 use Rattle.git_defs.specs.Faces.{IsConeFace, IsGreatestMask, SameCone, face, face_cone}
 use Rattle.git_defs.specs.Vectors.{HasZeroSum, Vector}
 use Rattle.git_geometry.proofs.Rays.{same_back, same_through}
-use Rattle.git_ints.proofs.PlaneGradings.{face_member, face_of_length}
-use Rattle.git_ints.proofs.PlaneRanks.{rank_turns, turns_rank}
+use Rattle.git_minors.proofs.Parts.{face_member, face_of_length}
+use Rattle.git_plane.proofs.PlaneRanks.{rank_turns, turns_rank}
 use Rattle.git_ints.proofs.Turns.{turn-swap}
-use Rattle.git_ints.proofs.Wedges.{wedge_or_zero_sum}
-use Rattle.git_ints.proofs.ZeroSums.{positive_no_zero_sum}
-use Rattle.git_ints.specs.Plane.{HasTurns, HasWedge, LiesBetween, turn}
+use Rattle.git_plane.proofs.Wedges.{wedge_or_zero_sum}
+use Rattle.git_geometry.proofs.ZeroSums.{positive_no_zero_sum}
+use Rattle.git_ints.specs.Plane.{turn}
+use Rattle.git_plane.specs.Wedges.{HasTurns, HasWedge, LiesBetween}
 use Rattle.git_plane.proofs.Chambers.{IsPairCone}
 use Rattle.git_plane.proofs.Directions.{AreAhead, HasColumn, HasDirection, direction_in, direction_once, multiple_in, multiple_turns, turns_of_multiple}
 use Rattle.git_plane.proofs.Masks.{IsMaskOf, mask_of}

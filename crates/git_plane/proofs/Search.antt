@@ -8,7 +8,8 @@ use Rattle.git_defs.proofs.Sums.{scale-one}
 use Rattle.git_defs.specs.Chambers.{IsGeneric}
 use Rattle.git_defs.specs.Vectors.{Vector}
 use Rattle.git_ints.proofs.Turns.{turn-swap}
-use Rattle.git_ints.specs.Plane.{HasWedge, LiesBetween, turn}
+use Rattle.git_ints.specs.Plane.{turn}
+use Rattle.git_plane.specs.Wedges.{HasWedge, LiesBetween}
 use Rattle.git_plane.proofs.Directions.{AreAhead, HasDirection, IsMultiple, generic_ahead, generic_turns, multiple_turns}
 use Rattle.git_plane.proofs.PairCones.{Inside, Opens, inside_of_cone}
 use Rattle.git_plane.proofs.Turns.{IsAhead, Turning, left, level, right, turn_through, turn_into, turning}

@@ -9,7 +9,7 @@ use Rattle.git_defs.specs.Listings.{Chamber, Facet, IsListed, IsNeighbour, IsRan
 use Rattle.git_defs.specs.Vectors.{Vector, vector_sum}
 use Rattle.git_geometry.proofs.Sorted.{rays_once}
 use Rattle.git_ints.specs.Gradings.{IsGrading}
-use Rattle.git_ints.specs.Plane.{HasWedge}
+use Rattle.git_plane.specs.Wedges.{HasWedge}
 use Rattle.git_plane.proofs.Behind.{behind_once}
 use Rattle.git_plane.proofs.Chambers.{ArePairCones}
 use Rattle.git_plane.proofs.Directions.{AreAhead, has_directions}

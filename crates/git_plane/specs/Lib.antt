@@ -1,3 +1,4 @@
+pub mod Wedges
 pub mod PlaneListings
 pub mod Neighbours
 pub mod Laws

@@ -133,6 +133,11 @@ raised_takes : (line start : ℕ) (m : Exponents) (place e : ℕ) (more : Expone
 raised_takes line start m place e more h =
     let g = guard_ok (nat_le (exponent m place + e) 64) _ (times m (variable_power place e)) more h in (le_from _ _ g.0, sym g.1)
 
+four_tokens : (ts us vs rest : List Token) (t u v : Token) → ts ≡ t ∷ us → us ≡ u ∷ vs → vs ≡ v ∷ rest → t.text ≡ codes "T(" → v.text ≡ codes ")" → texts ts ≡ codes "T(" ∷ u.text ∷ codes ")" ∷ texts rest
+four_tokens ts us vs rest t u v e f g open_is close_is =
+    let all : ts ≡ t ∷ u ∷ v ∷ rest = e ∙ ap (λ l. t ∷ l) (f ∙ ap (λ l. u ∷ l) g) in
+    ap texts all ∙ (λ j. open_is j ∷ u.text ∷ close_is j ∷ texts rest)
+
 pub power_takes : (r start : ℕ) (m : Exponents) (rest : RestOfLine) (more : Exponents) (text : List ℕ) → texts rest.tokens ≡ signs text → power_signs r start m rest ≡ Ok more
     → (v : ℕ × ℕ) × IsPower r text v × (exponent m v.0 + v.1 ≤ 64) × (more ≡ times m (variable_power v.0 v.1))
 unfolding power_signs
@@ -151,8 +156,7 @@ power_takes r start m rest more text are h =
     let te = exponent_takes b.0 e.0.1 e.0.0 e.1 (nothing_takes e.0.1 z.0 z.1) in
     let tk = raised_takes rest.line start m (i.0.0 - 1) e.0.0 k.0 k.1 in
     let same : k.0 ≡ more = ok_is k.0 more z.2 in
-    let tokens : texts rest.tokens ≡ codes "T(" ∷ ti.0.text ∷ codes ")" ∷ texts b.0.tokens =
-    ap texts (ta.1 ∙ ap (λ l. ta.0 ∷ l) (ti.1 ∙ ap (λ l. ti.0 ∷ l) tb.1)) ∙ (λ j. ta.2 j ∷ ti.0.text ∷ tb.2 j ∷ texts b.0.tokens) in (
+    let tokens = four_tokens rest.tokens a.0.1.tokens i.0.1.tokens b.0.tokens ta.0 ti.0 tb.0 ta.1 ti.1 tb.1 ta.2 tb.2 in (
       (i.0.0 - 1, e.0.0),
       record { digits = ti.0.text; index = i.0.0; exponent = texts b.0.tokens; are = sym are ∙ tokens; index_is = ti.2; first = tw.0; last = tw.1; place = refl; exponent_is = te },
       tk.0,

@@ -13,3 +13,4 @@ pub mod TextBytes
 pub mod SignTexts
 pub mod PartTexts
 pub mod ReadBack
+pub mod FaultKinds

@@ -1,10 +1,13 @@
 -- What holds of the lines of polynomials.
-use Rattle.std.specs.Prelude.{◌≡◌, ℕ, ◌≤◌, ◌<◌, ◌^◌, ◌&&◌, ◌==◌, not, true, List, length, Ok}
+use Rattle.std.specs.Prelude.{◌≡◌, ℕ, ◌≤◌, ◌<◌, ◌^◌, ◌&&◌, ◌==◌, not, true, List, length, Ok, Err, ◌⊎◌}
 use Rattle.std.specs.List.{list_all}
+use Rattle.git_lines.specs.declared.fault.FormKind.TheVariants.{Range, Syntax}
 use Rattle.git_defs.specs.Vectors.{Vector}
 use Rattle.git_algebra.specs.Exponents.{Exponents, exponent}
 use Rattle.git_algebra.specs.Polynomials.{Polynomial}
 use Rattle.git_poly.specs.Degrees.{HasMonomial, AreGradedBy}
+use Rattle.git_polytext.specs.declared.fault.PolynomialFault.{PolynomialFault}
+use Rattle.git_polytext.specs.declared.fault.PolynomialFault.TheVariants.{Form, Variable, NoMemory}
 use Rattle.git_polytext.specs.Reading.{polynomial_line}
 use Rattle.git_polytext.specs.Grammar.{IsPolynomialLine}
 use Rattle.git_polytext.specs.Printing.{polynomial_text}
@@ -20,6 +23,16 @@ LinesAreRead = (r line : ℕ) (content : List ℕ) (p : Polynomial) → r ≤ 16
 -- a line has one value at most
 abbrev pub LinesHaveOneValue : Type 0
 LinesHaveOneValue = (r : ℕ) (content : List ℕ) (p q : Polynomial) → r ≤ 16 → IsPolynomialLine r content p → IsPolynomialLine r content q → p ≡ q
+
+-- a fault of the line with this number, of a kind that comes
+abbrev pub IsFaultOf : ℕ → PolynomialFault → Type 0
+IsFaultOf line (Form f) = (f.line ≡ line) × ((f.kind ≡ Syntax) ⊎ (f.kind ≡ Range))
+IsFaultOf line (Variable at column) = at ≡ line
+IsFaultOf line NoMemory = ⊥
+
+-- the faults of a line name it, and want of memory is none of them
+abbrev pub FaultsNameTheLine : Type 0
+FaultsNameTheLine = (r line : ℕ) (content : List ℕ) (e : PolynomialFault) → polynomial_line r line content ≡ Err e → IsFaultOf line e
 
 -- the monomials of a line are ones in its variables, with exponents of at most 64
 abbrev pub LinesAreGraded : Type 0

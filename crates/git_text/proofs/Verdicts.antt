@@ -13,7 +13,7 @@ use Rattle.git_geometry.specs.Generators.{Separated, CommonZero}
 use Rattle.git_geometry.proofs.Farkas.{farkas}
 use Rattle.git_geometry.proofs.Independence.{chosen_member, chosen_of_length, no_common_zero}
 use Rattle.git_geometry.proofs.Ranks.{rank_or_zero}
-use Rattle.git_ints.proofs.ZeroSums.{zero_sum_later, zero_sum_of_negative}
+use Rattle.git_geometry.proofs.ZeroSums.{zero_sum_later, zero_sum_of_negative}
 use Rattle.git_ints.specs.Gradings.{Degrees}
 use Rattle.git_text.specs.Reading.{Verdict, IsVerdict}
 use Rattle.git_text.specs.Reading.Verdict.{grades, low_rank, unpointed}

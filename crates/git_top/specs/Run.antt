@@ -7,7 +7,10 @@ use Rattle.git_base.specs.Fronts.{GrowsByFront}
 use Rattle.std.specs.Borrow.{Bor}
 use Rattle.git_defs.specs.Listings.{Listing, IsRankTwoListing}
 use Rattle.git_ints.specs.Gradings.{Degrees}
-use Rattle.git_text.specs.Grammar.{IsInput, IsNotBuilt, IsBad}
+use Rattle.git_text.specs.declared.fault.BadKind.{BadKind}
+use Rattle.git_text.specs.Grammar.{InputValue, IsInput}
+use Rattle.git_text.specs.Reading.{IsFirstFault, variables_in}
+use Rattle.git_top.specs.Refusals.{fault_text, long_text}
 use Rattle.git_top.specs.ListingText.{listing_text}
 use Rattle.git_base.specs.declared.status.Status.{Status}
 use Rattle.git_base.specs.declared.status.Status.TheVariants.{Done, Usage, BadInput, NotBuilt, ReadFault, WriteFault, NoMemory}
@@ -24,18 +27,32 @@ fan_words = codes "fan" ∷ []
 abbrev pub input_limit : ℕ
 input_limit = 2 ^ 22
 
--- the bytes are too many, or no input
-abbrev pub IsRefused : List ℕ → Type 0
-IsRefused bytes = (input_limit < length bytes) ⊎ IsBad bytes
+-- too many bytes were left, and the text says so
+abbrev pub SaysTooLong : Option (List ℕ) → List ℕ → Type 0
+SaysTooLong left text = IfSome left (λ bytes. input_limit < length bytes) × (text ≡ long_text)
 
--- the bytes are few enough, and ask for what is not built yet
-abbrev pub IsUnbuilt : List ℕ → Type 0
-IsUnbuilt bytes = (length bytes ≤ input_limit) × IsNotBuilt bytes
+-- the bytes that were left are few enough, but no input, and the text is the line of their first fault
+pub record NamesFault (left : Option (List ℕ)) (text : List ℕ) : Type 0 where
+  pub bytes : List ℕ
+  pub were : IfSome left (λ bs. bs ≡ bytes)
+  pub few : length bytes ≤ input_limit
+  pub line : ℕ
+  pub column : ℕ
+  pub kind : BadKind
+  pub first : IsFirstFault bytes line column kind
+  pub spelled : text ≡ fault_text (variables_in bytes) line column kind
+
+-- the bytes are few enough, and an input of another number of rows than two or with generators
+pub record IsUnbuilt (bytes : List ℕ) : Type 0 where
+  pub few : length bytes ≤ input_limit
+  pub value : InputValue
+  pub input : IsInput bytes value
+  pub other : (value.degrees.k ≢ 2) ⊎ (0 < length value.generators)
 
 -- the bytes are few enough, and the input of a matrix with two rows and the ideal 0
 pub record IsPlaneInput (bytes : List ℕ) (d : Degrees) : Type 0 where
   pub few : length bytes ≤ input_limit
-  pub input : IsInput bytes d
+  pub input : IsInput bytes (record { degrees = d; generators = [] })
   pub two : d.k ≡ 2
 
 -- the text is the listing of the chambers of a matrix with two rows
@@ -44,18 +61,17 @@ pub record ListsChambers (d : Degrees) (text : List ℕ) : Type 0 where
   pub is : IsRankTwoListing d.columns listing
   pub spelled : text ≡ listing_text listing
 
--- the line that is written for a refusal
-abbrev pub refusal_line : Status → List ℕ
-refusal_line Usage = codes "refused usage" ++ 10 ∷ []
-refusal_line BadInput = codes "refused input" ++ 10 ∷ []
-refusal_line NotBuilt = codes "refused notbuilt" ++ 10 ∷ []
-refusal_line s = []
+abbrev pub usage_text : List ℕ
+usage_text = codes "refused usage" ++ 10 ∷ []
+
+abbrev pub unbuilt_text : List ℕ
+unbuilt_text = codes "refused notbuilt" ++ 10 ∷ []
 
 -- the text that decides a run before it is written: which status, over the words and the bytes that the source had left
 abbrev pub Decides : List (List ℕ) → Option (List ℕ) → Status → List ℕ → Type 0
-Decides words left Usage text = (words ≢ fan_words) × (text ≡ refusal_line Usage)
-Decides words left BadInput text = (words ≡ fan_words) × IfSome left IsRefused × (text ≡ refusal_line BadInput)
-Decides words left NotBuilt text = (words ≡ fan_words) × IfSome left IsUnbuilt × (text ≡ refusal_line NotBuilt)
+Decides words left Usage text = (words ≢ fan_words) × (text ≡ usage_text)
+Decides words left BadInput text = (words ≡ fan_words) × (SaysTooLong left text ⊎ NamesFault left text)
+Decides words left NotBuilt text = (words ≡ fan_words) × IfSome left IsUnbuilt × (text ≡ unbuilt_text)
 Decides words left Done text = (words ≡ fan_words) × ((d : Degrees) × IfSome left (λ bytes. IsPlaneInput bytes d) × ListsChambers d text)
 Decides words left s text = ⊥
 
@@ -70,17 +86,14 @@ HasWritten words left old new s = (text : List ℕ) × Decides words left s text
 abbrev pub WritesOr : Status → List ℕ → Option (List ℕ) → Option (List ℕ) → ℕ → ℕ → Status → Type 0
 WritesOr status text old new before now result = ((result ≡ status) × Appends old new text) ⊎ ((result ≡ WriteFault) × GrowsByFront old new text × Rose before now)
 
--- why no listing was made, over the bytes that the source had left and its count of faults before and now
-abbrev pub Refuses : Option (List ℕ) → ℕ → ℕ → Status → Type 0
-Refuses left before now ReadFault = Rose before now
-Refuses left before now BadInput = IfSome left IsRefused
-Refuses left before now NotBuilt = IfSome left IsUnbuilt
-Refuses left before now NoMemory = Unit {0}
-Refuses left before now s = ⊥
+-- why no text was made, over the source's count of faults before and now
+abbrev pub Fails : ℕ → ℕ → Status → Type 0
+Fails before now ReadFault = Rose before now
+Fails before now NoMemory = Unit {0}
+Fails before now s = ⊥
 
--- why bytes gave no listing
-abbrev pub RefusesBytes : List ℕ → Status → Type 0
-RefusesBytes bytes BadInput = IsBad bytes
-RefusesBytes bytes NotBuilt = IsNotBuilt bytes
-RefusesBytes bytes NoMemory = Unit {0}
-RefusesBytes bytes s = ⊥
+-- the answer to an input: its listing, or that it is not built yet
+abbrev pub Answers : InputValue → Status → List ℕ → Type 0
+Answers v Done text = (v.degrees.k ≡ 2) × (v.generators ≡ []) × ListsChambers v.degrees text
+Answers v NotBuilt text = ((v.degrees.k ≢ 2) ⊎ (0 < length v.generators)) × (text ≡ unbuilt_text)
+Answers v s text = ⊥

@@ -8,6 +8,7 @@ mod direction;
 mod directions;
 mod listing;
 mod printing;
+mod refusal;
 mod run;
 mod words;
 

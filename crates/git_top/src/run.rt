@@ -27,8 +27,8 @@ fn write_text<K: Sink>(sink: &mut K, text: &[u8], status: Status) -> Status
 ///
 /// - `Usage`: the words are no command; a line says so.
 /// - `ReadFault`: a read failed; nothing is written.
-/// - `BadInput`: the bytes are more than 4 MiB, or no input; a line says so.
-/// - `NotBuilt`: the bytes ask for another number of rows, or for generators; a line says so.
+/// - `BadInput`: the bytes are more than 4 MiB, or no input; a line names the first fault.
+/// - `NotBuilt`: the bytes are an input with another number of rows, or with generators; a line says so.
 /// - `WriteFault`: a write failed; a front of the text that the others decided is written.
 /// - `NoMemory`: memory ran out; nothing is written.
 pub fn gitfan<S: Source, K: Sink>(
@@ -56,9 +56,7 @@ pub fn gitfan<S: Source, K: Sink>(
         return write_text(sink, b"refused usage\n", Status::Usage);
     }
     match answer(alloc, source) {
-        Ok(text) => write_text(sink, text.as_bytes(), Status::Done),
-        Err(Status::BadInput) => write_text(sink, b"refused input\n", Status::BadInput),
-        Err(Status::NotBuilt) => write_text(sink, b"refused notbuilt\n", Status::NotBuilt),
+        Ok(reply) => write_text(sink, reply.text.as_bytes(), reply.status),
         Err(status) => status,
     }
 }

@@ -71,6 +71,45 @@ fn listings_are_as_worked_by_hand(rt: HostRuntime) -> Result<(), Fail> {
     Ok(())
 }
 
+/// Bytes, how the run over them ends, and the line that says so.
+type Refused = (&'static [u8], Status, &'static [u8]);
+
+/// Inputs that are bad, and inputs that are not built.
+const REFUSED: [Refused; 12] = [
+    (b"", Status::BadInput, b"refused input 1 1 truncated\n"),
+    (b"gitfan 2\n", Status::BadInput, b"refused input 1 1 header\n"),
+    (b"gitfan 1\ngrading 3 3x\n", Status::BadInput, b"refused input 2 11 number\n"),
+    (b"gitfan 1\ngrading 7 3\n", Status::BadInput, b"refused input 2 9 range\n"),
+    (b"gitfan 1\ngrading 2\n", Status::BadInput, b"refused input 2 10 count\n"),
+    (b"gitfan 1\ngrading 2 2\n1 2\n0 0\n", Status::BadInput, b"refused input 4 1 rank\n"),
+    (b"gitfan 1\ngrading 1 2\n1 -1\n", Status::BadInput, b"refused input 3 1 pointed\n"),
+    (
+        b"gitfan 1\ngrading 2 3\n1 1 0\n0 1 1\nideal 1\nT(4)\nend\n",
+        Status::BadInput,
+        b"refused input 6 1 variable\n",
+    ),
+    (
+        b"gitfan 1\ngrading 2 3\n1 1 0\n0 1 1\nideal 1\nT(1)*T(2)+T(2)\nend\n",
+        Status::BadInput,
+        b"refused input 6 1 homogeneous 1 1 1 0 ; 0 1 0\n",
+    ),
+    (
+        b"gitfan 1\ngrading 2 3\n1 1 0\n0 1 1\nideal 0\nend\n\n",
+        Status::BadInput,
+        b"refused input 7 1 trailing\n",
+    ),
+    (
+        b"gitfan 1\ngrading 3 3\n1 0 0\n0 1 0\n0 0 1\nideal 0\nend\n",
+        Status::NotBuilt,
+        b"refused notbuilt\n",
+    ),
+    (
+        b"gitfan 1\ngrading 2 3\n1 1 0\n0 1 1\nideal 1\n0\nend\n",
+        Status::NotBuilt,
+        b"refused notbuilt\n",
+    ),
+];
+
 #[test]
 fn refusals_write_their_line(rt: HostRuntime) -> Result<(), Fail> {
     let alloc = rt.alloc();
@@ -79,12 +118,11 @@ fn refusals_write_their_line(rt: HostRuntime) -> Result<(), Fail> {
     assert_eq!(rt; written.as_slice(), b"refused usage\n".as_slice());
     assert_eq!(rt; ran(alloc, &["fun"], PLANE, 9)?.0, Status::Usage);
     assert_eq!(rt; ran(alloc, &["fan", "fan"], PLANE, 9)?.0, Status::Usage);
-    let (status, written) = ran(alloc, &["fan"], b"", 9)?;
-    assert_eq!(rt; status, Status::BadInput);
-    assert_eq!(rt; written.as_slice(), b"refused input\n".as_slice());
-    let (status, written) = ran(alloc, &["fan"], b"gitfan 1\ngrading 3 3\n", 9)?;
-    assert_eq!(rt; status, Status::NotBuilt);
-    assert_eq!(rt; written.as_slice(), b"refused notbuilt\n".as_slice());
+    for (bytes, ended, line) in REFUSED {
+        let (status, written) = ran(alloc, &["fan"], bytes, 9)?;
+        assert_eq!(rt; status, ended);
+        assert_eq!(rt; written.as_slice(), line);
+    }
     Ok(())
 }
 
@@ -117,6 +155,8 @@ fn an_input_has_at_most_four_mebibytes(rt: HostRuntime) -> Result<(), Fail> {
     spaced.resize(4 << 20, b' ')?;
     assert_eq!(rt; ran(alloc, &["fan"], &spaced, 4096)?.0, Status::Done);
     spaced.push(b' ')?;
-    assert_eq!(rt; ran(alloc, &["fan"], &spaced, 4096)?.0, Status::BadInput);
+    let (status, written) = ran(alloc, &["fan"], &spaced, 4096)?;
+    assert_eq!(rt; status, Status::BadInput);
+    assert_eq!(rt; written.as_slice(), b"refused input 0 0 toolong\n".as_slice());
     Ok(())
 }

@@ -1,4 +1,4 @@
-use Rattle.std.proofs.Common.{List, length, refl, rules, subst, sym, ◌∙◌}
+use Rattle.std.proofs.Common.{List, refl, rules, subst, sym, ◌∙◌}
 use Rattle.std.proofs.lemmas.Bool.{eqb-false}
 use Rattle.git_defs.specs.Vectors.{Vector}
 use Rattle.git_minors.specs.Minors.{HasCircuit}

@@ -10,8 +10,9 @@ use Rattle.git_defs.proofs.Integers.{diff, diff_add, diff_neg, diff_sub, diff_mu
 use Rattle.git_defs.proofs.Members.{Member, OfLength, first_of_length, rest_of_length, member_contains, contains_member, all_member, member_all}
 use Rattle.git_defs.proofs.Linear.{length-scale}
 use Rattle.git_defs.proofs.Closed.{closed_cone, cone_closed, cone_has, sign_of, positive_or_zero}
-use Rattle.git_ints.specs.Plane.{turn, LiesBetween, HasWedge, HasTurns}
-use Rattle.git_ints.proofs.ZeroSums.{zero_sum_later, zero_sum_of_negative, positive_no_zero_sum}
+use Rattle.git_ints.specs.Plane.{turn}
+use Rattle.git_plane.specs.Wedges.{LiesBetween, HasWedge, HasTurns}
+use Rattle.git_geometry.proofs.ZeroSums.{zero_sum_later, zero_sum_of_negative, positive_no_zero_sum}
 use Rattle.git_ints.proofs.Turns.{in_plane, between_in_cone, turn-self, turn-swap, turn-negative, negative-turn, turn-exchange, turn-lagrange}
 
 -- v lies on the ray of u

@@ -8,7 +8,8 @@ use Rattle.git_defs.specs.Vectors.{Vector, zero_vector, combination, AreIndepend
 use Rattle.git_defs.proofs.Integers.{diff, diff_add, diff_neg, diff_sub, diff_mul, diff_same, zero_of_mul}
 use Rattle.git_defs.proofs.Members.{OfLength, contains_member}
 use Rattle.git_defs.proofs.PlaneRays.{first_entry, second_entry}
-use Rattle.git_ints.specs.Plane.{turn, HasTurns}
+use Rattle.git_ints.specs.Plane.{turn}
+use Rattle.git_plane.specs.Wedges.{HasTurns}
 use Rattle.git_ints.proofs.Turns.{in_plane}
 
 no_product : (a b : ℤ) → (a ≡ pos 0 → ⊥) → a *ℤ b ≡ pos 0 → b ≡ pos 0

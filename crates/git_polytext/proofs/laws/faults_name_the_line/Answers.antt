@@ -1,0 +1,5 @@
+use Rattle.git_polytext.proofs.FaultKinds.{line_tells}
+use Rattle.git_polytext.proofs.laws.faults_name_the_line.Goals as goal
+
+pub returns : goal.returns
+returns c = line_tells
