@@ -93,7 +93,7 @@ each_small mask e n k h = elim (cases_lt k n) [
     at_most true = omega arith
     at_most false = omega arith
 
-sum_small : (f : ℕ → ℕ) (e a n : ℕ) → ((k : ℕ) → a ≤ k → k < a + n → f k ≤ e) → sum_by f (range_with_len a n) ≤ n * e
+pub sum_small : (f : ℕ → ℕ) (e a n : ℕ) → ((k : ℕ) → a ≤ k → k < a + n → f k ≤ e) → sum_by f (range_with_len a n) ≤ n * e
 sum_small f e a zero each = omega arith
 sum_small f e a (suc n) each = omega (arith, sum_by-cons f a (range_with_len (a + 1) n), each a (omega arith) (omega arith), sum_small f e (a + 1) n (λ k low high. each k (omega arith) (omega arith)))
 

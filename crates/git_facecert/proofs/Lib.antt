@@ -4,3 +4,4 @@ pub mod FacePowers
 pub mod Firsts
 pub mod Combinations
 pub mod Pairs
+pub mod Graded
