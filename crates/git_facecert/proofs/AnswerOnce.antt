@@ -1,10 +1,9 @@
 -- A certificate has one answer.
-use Rattle.std.proofs.Common.{ℕ, ◌+◌, ◌<◌, ◌≤◌, ◌≡◌, refl, List, length, map, sym, ap, subst, ◌∙◌, arith, inl, inr, ◌⊎◌, All}
+use Rattle.std.proofs.Common.{ℕ, ◌≡◌, refl, List, sym, ap, arith, inl, inr, ◌⊎◌, All}
 use Rattle.std.proofs.lemmas.Bool.{cases_lt}
 use Rattle.git_algebra.specs.Polynomials.{Polynomial}
 use Rattle.git_algebra.specs.Operations.{zero_polynomial, restricted}
-use Rattle.git_ideals.specs.Division.{member, DividesToZero, PairsDivide}
-use Rattle.git_facecert.specs.declared.certificate.FaceCert.{FaceCert}
+use Rattle.git_ideals.specs.Division.{DividesToZero, PairsDivide}
 use Rattle.git_facecert.specs.declared.certificate.FaceCert.TheVariants.{Monomial, Free}
 use Rattle.git_facecert.specs.declared.certificate.Place.{Place}
 use Rattle.git_facecert.specs.declared.certificate.Place.TheVariants.{Member, Generator, Clear, Pair, Product}

@@ -1,7 +1,7 @@
 -- Sums of products of cofactors with restricted generators, one product after the other.
 use Rattle.std.proofs.Common.{zero, suc, ℕ, ◌+◌, ◌-◌, ◌%◌, ◌<◌, ◌≤◌, ◌≡◌, refl, List, [], ◌∷◌, map, take, length, get_or, Bool, true, false, cond, sym, ap, ◌∙◌, add-one, arith, max}
 use Rattle.std.specs.Prelude.{filter, ◌↔◌}
-use Rattle.git_algebra.specs.Exponents.{Exponents, degree, in_face}
+use Rattle.git_algebra.specs.Exponents.{degree, in_face}
 use Rattle.git_algebra.specs.Sums.{Sum, coefficient}
 use Rattle.git_algebra.specs.Polynomials.{Polynomial, normal}
 use Rattle.git_algebra.specs.Operations.{zero_polynomial, plus, minus, multiplied, restricted, total_degree, greatest_degree}

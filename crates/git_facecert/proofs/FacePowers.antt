@@ -1,10 +1,10 @@
 -- Powers of the product of a face's variables, variable by variable.
-use Rattle.std.proofs.Common.{zero, suc, ℕ, ◌+◌, ◌*◌, ◌^◌, ◌<◌, ◌≤◌, ◌≡◌, refl, List, Bool, true, false, sym, ◌∙◌, ap, arith, inl, inr, eq-eqb, add-one}
+use Rattle.std.proofs.Common.{zero, suc, ℕ, ◌+◌, ◌*◌, ◌^◌, ◌<◌, ◌≤◌, ◌≡◌, refl, Bool, true, false, sym, ◌∙◌, ap, arith, inl, inr, eq-eqb, add-one}
 use Rattle.std.specs.Prelude.{◌/◌, ◌%◌, ◌==◌, if◌then◌else◌}
 use Rattle.std.specs.List.{range_with_len, sum_by}
 use Rattle.std.proofs.lemmas.Bool.{cases_eq, cases_lt, ne_eqb}
 use Rattle.std.proofs.lemmas.List.Sums.{sum_by-cons}
-use Rattle.git_algebra.specs.Exponents.{Exponents, exponent, exponents_by, one, times, power, variable_power, degree}
+use Rattle.git_algebra.specs.Exponents.{Exponents, exponent, one, times, power, variable_power, degree}
 use Rattle.git_algebra.proofs.Monomials.{same_exponents, exponent-by, exponent-one, exponent-times, exponent-power, degree-times, degree_sum}
 use Rattle.git_ideals.specs.Faces.{face_monomial}
 

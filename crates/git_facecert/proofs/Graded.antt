@@ -1,6 +1,6 @@
 -- Generators have small total degrees.
-use Rattle.std.proofs.Common.{zero, suc, ℕ, ◌+◌, ◌*◌, ◌<◌, ◌≤◌, ◌≡◌, refl, List, [], ◌∷◌, length, get_or, sym, ap, subst, ◌∙◌, arith, max}
-use Rattle.std.specs.Prelude.{All, Contains}
+use Rattle.std.proofs.Common.{zero, suc, ℕ, ◌<◌, ◌≤◌, ◌≡◌, refl, List, [], ◌∷◌, length, get_or, sym, subst, arith}
+use Rattle.std.specs.Prelude.{All}
 use Rattle.git_defs.specs.Vectors.{Vector}
 use Rattle.git_algebra.specs.Exponents.{Exponents, exponent, degree}
 use Rattle.git_algebra.specs.Sums.{Sum}

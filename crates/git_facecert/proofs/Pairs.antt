@@ -1,18 +1,15 @@
 -- Pairs of members, in order.
-use Rattle.std.proofs.Common.{ℕ, ◌+◌, ◌<◌, ◌≤◌, ◌≡◌, refl, List, length, IsTrue, Bool, sym, ap, subst, ◌∙◌, arith, inl, inr}
-use Rattle.std.specs.Prelude.{◌↔◌, ◌≢◌, All}
+use Rattle.std.proofs.Common.{ℕ, ◌+◌, ◌<◌, ◌≤◌, ◌≡◌, refl, List, length, IsTrue, Bool, sym, subst, arith, inl, inr}
+use Rattle.std.specs.Prelude.{◌↔◌}
 use Rattle.std.proofs.lemmas.Bool.{cases_eq}
-use Rattle.git_algebra.specs.Exponents.{lcm, degree}
 use Rattle.git_algebra.specs.Polynomials.{Polynomial}
-use Rattle.git_algebra.specs.Operations.{zero_polynomial, total_degree}
+use Rattle.git_algebra.specs.Operations.{total_degree}
 use Rattle.git_algebra.proofs.Monomials.{degree-lcm_le}
 use Rattle.git_algebra.proofs.Products.{total_degree-lead}
 use Rattle.git_ideals.specs.Division.{member, DividesToZero, IsSPolynomial, PairsDivide}
 use Rattle.git_ideals.proofs.SPolynomials.{one_s_polynomial}
 use Rattle.git_reduce.specs.Steps.{IsMultipleAbove}
-use Rattle.git_facecert.specs.Certificates.{IsMember}
 use Rattle.git_facecert.specs.Answers.{PairDivides, FirstPartner, FirstPairLacks, ComesBefore}
-use Rattle.git_facecert.proofs.Firsts.{found_member, member_has}
 
 -- the leads of members have no multiple that is too high
 pub not_above : (f g : Polynomial) → total_degree f ≤ 33554432 → total_degree g ≤ 33554432 → IsMultipleAbove 67108864 f g → ⊥

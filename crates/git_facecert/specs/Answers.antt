@@ -1,5 +1,5 @@
 -- The first line of a certificate that fails, and where it is.
-use Rattle.std.specs.Prelude.{ℕ, ◌+◌, ◌<◌, ◌≤◌, ◌^◌, ◌≡◌, ◌≢◌, ◌⊎◌, List, length, map, All}
+use Rattle.std.specs.Prelude.{ℕ, ◌+◌, ◌<◌, ◌≤◌, ◌^◌, ◌≡◌, ◌⊎◌, List, length, map, All}
 use Rattle.git_algebra.specs.Exponents.{power}
 use Rattle.git_algebra.specs.Polynomials.{Polynomial}
 use Rattle.git_algebra.specs.Operations.{restricted}

@@ -103,11 +103,7 @@ fn first_partner(
 }
 
 /// The numbers, from 1, of the first pair whose S-polynomial does not divide to rest 0.
-fn first_pair(
-    alloc: Global,
-    mask: u16,
-    members: &[Poly],
-) -> Result<Option<(u32, u32)>, NoMemory>
+fn first_pair(alloc: Global, mask: u16, members: &[Poly]) -> Result<Option<(u32, u32)>, NoMemory>
     requires members { All (IsMember mask) members.now }
     requires few { length members.now < 2 ^ 32 }
     ensures none { IfOk result (λ o. IfNone o (PairsDivide members.now)) }

@@ -18,6 +18,5 @@ pub use laws::{
     certificates_have_one_answer,
 };
 
-
 #[cfg(test)]
 mod tests;

@@ -1,122 +1,93 @@
 //! Certificates worked by hand.
-use super::*;
+use crate::Accepted::{self, No, Yes};
+use crate::Place::{Clear, Generator, Member, Pair, Product};
+use crate::{FaceCert, FaceVerdict, accept};
 use git_base::NoMemory;
 use git_field::Fp;
 use git_mono::Mono;
 use git_poly::Poly;
-use git_text::read_input;
+use git_text::{Input, read_input};
 use std::alloc::Global;
 use std::test::*;
 
 /// Terms by their exponents of T(1), T(2), T(3) and y, with a number.
 type Terms = &'static [([u32; 4], i128)];
 
-/// A certificate of a face: monomial with a power, or free.
-struct Case {
-    text: &'static [u8],
-    mask: u16,
-    power: Option<u32>,
-    polynomials: &'static [Terms],
-    answer: Accepted,
-}
+/// A text, a face's mask, the power and the cofactors of a monomial certificate, and its answer.
+type MonomialCase = (&'static [u8], u16, u32, &'static [Terms], Accepted);
+
+/// A text, a face's mask, the members of a free certificate, and its answer.
+type FreeCase = (&'static [u8], u16, &'static [Terms], Accepted);
 
 const PLANE: &[u8] = b"gitfan 1\ngrading 2 3\n1 1 0\n0 1 1\nideal 0\nend\n";
+
 const PRODUCT: &[u8] = b"gitfan 1\ngrading 2 3\n1 1 0\n0 1 1\nideal 1\nT(1)*T(2)\nend\n";
-const QUADRIC: &[u8] =
-    b"gitfan 1\ngrading 2 3\n2 0 1\n0 2 1\nideal 1\nT(1)*T(2)-T(3)^2\nend\n";
-const TWO: &[u8] =
-    b"gitfan 1\ngrading 2 3\n2 0 1\n0 2 1\nideal 2\nT(1)*T(2)\nT(3)^2\nend\n";
+
+const QUADRIC: &[u8] = b"gitfan 1\ngrading 2 3\n2 0 1\n0 2 1\nideal 1\nT(1)*T(2)-T(3)^2\nend\n";
+
+const TWO: &[u8] = b"gitfan 1\ngrading 2 3\n2 0 1\n0 2 1\nideal 2\nT(1)*T(2)\nT(3)^2\nend\n";
 
 const ALL_CLEAR: Terms = &[([1, 1, 1, 1], -1), ([0, 0, 0, 0], 1)];
+
 const EDGE_CLEAR: Terms = &[([1, 0, 1, 1], -1), ([0, 0, 0, 0], 1)];
+
 const CONIC: Terms = &[([1, 1, 0, 0], 1), ([0, 0, 2, 0], -1)];
+
 const CUBE_CLEAR: Terms = &[([0, 0, 3, 1], -1), ([0, 0, 0, 0], 1)];
+
 const FIRST_TWO: Terms = &[([1, 1, 0, 0], 1)];
+
 const THIRD: Terms = &[([0, 0, 1, 0], 1)];
 
-const fn monomial(
-    text: &'static [u8],
-    mask: u16,
-    power: u32,
-    polynomials: &'static [Terms],
-    answer: Accepted,
-) -> Case {
-    Case {
-        text,
-        mask,
-        power: Some(power),
-        polynomials,
-        answer,
-    }
-}
-
-const fn free(
-    text: &'static [u8],
-    mask: u16,
-    polynomials: &'static [Terms],
-    answer: Accepted,
-) -> Case {
-    Case {
-        text,
-        mask,
-        power: None,
-        polynomials,
-        answer,
-    }
-}
-
-use Accepted::{No, Yes};
-use Place::{Clear, Generator, Member, Pair, Product};
-
-const MONOMIAL_CASES: [Case; 10] = [
-    monomial(PRODUCT, 7, 1, &[THIRD], Yes),
-    monomial(QUADRIC, 5, 2, &[&[([2, 0, 0, 0], -1)]], Yes),
-    monomial(
+const MONOMIAL_CASES: [MonomialCase; 10] = [
+    (PRODUCT, 7, 1, &[THIRD], Yes),
+    (QUADRIC, 5, 2, &[&[([2, 0, 0, 0], -1)]], Yes),
+    (
         PRODUCT,
         7,
         1048576,
         &[&[([1048575, 1048575, 1048576, 0], 1)]],
         Yes,
     ),
-    monomial(
+    (
         PRODUCT,
         7,
         1048577,
         &[&[([1048576, 1048576, 1048577, 0], 1)]],
         No(Product),
     ),
-    monomial(PRODUCT, 7, 1, &[THIRD, THIRD], No(Product)),
-    monomial(PRODUCT, 3, 1, &[THIRD], No(Member(1))),
-    monomial(PRODUCT, 7, 1, &[&[([0, 0, 1, 1], 1)]], No(Member(1))),
-    monomial(PRODUCT, 7, 1, &[&[([0, 0, 33554433, 0], 1)]], No(Member(1))),
-    monomial(PRODUCT, 7, 1, &[&[([0, 0, 1, 0], 2)]], No(Product)),
-    monomial(TWO, 7, 1, &[THIRD, &[([0, 0, 0, 1], 1)]], No(Member(2))),
+    (PRODUCT, 7, 1, &[THIRD, THIRD], No(Product)),
+    (PRODUCT, 3, 1, &[THIRD], No(Member(1))),
+    (PRODUCT, 7, 1, &[&[([0, 0, 1, 1], 1)]], No(Member(1))),
+    (PRODUCT, 7, 1, &[&[([0, 0, 33554433, 0], 1)]], No(Member(1))),
+    (PRODUCT, 7, 1, &[&[([0, 0, 1, 0], 2)]], No(Product)),
+    (TWO, 7, 1, &[THIRD, &[([0, 0, 0, 1], 1)]], No(Member(2))),
 ];
 
-const FREE_CASES: [Case; 18] = [
-    free(PLANE, 7, &[ALL_CLEAR], Yes),
-    free(PLANE, 5, &[EDGE_CLEAR], Yes),
-    free(PLANE, 7, &[ALL_CLEAR, ALL_CLEAR], Yes),
-    free(PRODUCT, 5, &[EDGE_CLEAR], Yes),
-    free(QUADRIC, 7, &[CONIC, CUBE_CLEAR], Yes),
-    free(QUADRIC, 7, &[CONIC, CUBE_CLEAR, CONIC], Yes),
-    free(PLANE, 5, &[ALL_CLEAR], No(Member(1))),
-    free(QUADRIC, 7, &[CONIC, &[]], No(Member(2))),
-    free(QUADRIC, 7, &[&[([0, 0, 0, 0], 5)]], No(Member(1))),
-    free(PLANE, 7, &[&[([0, 0, 33554433, 0], 1)]], No(Member(1))),
-    free(QUADRIC, 5, &[EDGE_CLEAR], No(Generator(1))),
-    free(PRODUCT, 7, &[], No(Generator(1))),
-    free(TWO, 7, &[FIRST_TWO, ALL_CLEAR], No(Generator(2))),
-    free(PLANE, 7, &[], No(Clear)),
-    free(QUADRIC, 7, &[CONIC], No(Clear)),
-    free(PRODUCT, 7, &[ALL_CLEAR, FIRST_TWO], No(Pair(1, 2))),
-    free(
+const FREE_CASES: [FreeCase; 18] = [
+    (PLANE, 7, &[ALL_CLEAR], Yes),
+    (PLANE, 5, &[EDGE_CLEAR], Yes),
+    (PLANE, 7, &[ALL_CLEAR, ALL_CLEAR], Yes),
+    (PRODUCT, 5, &[EDGE_CLEAR], Yes),
+    (QUADRIC, 7, &[CONIC, CUBE_CLEAR], Yes),
+    (QUADRIC, 7, &[CONIC, CUBE_CLEAR, CONIC], Yes),
+    (PLANE, 5, &[ALL_CLEAR], No(Member(1))),
+    (QUADRIC, 7, &[CONIC, &[]], No(Member(2))),
+    (QUADRIC, 7, &[&[([0, 0, 0, 0], 5)]], No(Member(1))),
+    (PLANE, 7, &[&[([0, 0, 33554433, 0], 1)]], No(Member(1))),
+    (QUADRIC, 5, &[EDGE_CLEAR], No(Generator(1))),
+    (PRODUCT, 7, &[], No(Generator(1))),
+    (TWO, 7, &[FIRST_TWO, ALL_CLEAR], No(Generator(2))),
+    (PLANE, 7, &[], No(Clear)),
+    (QUADRIC, 7, &[CONIC], No(Clear)),
+    (PRODUCT, 7, &[ALL_CLEAR, FIRST_TWO], No(Pair(1, 2))),
+    (
         PRODUCT,
         7,
         &[ALL_CLEAR, ALL_CLEAR, FIRST_TWO],
         No(Pair(1, 3)),
     ),
-    free(
+    (
         TWO,
         7,
         &[FIRST_TWO, &[([0, 0, 2, 0], 1)], ALL_CLEAR],
@@ -138,44 +109,55 @@ fn polynomial(alloc: Global, terms: Terms) -> Result<Poly, NoMemory> {
     Ok(sum)
 }
 
-/// What is answered of a certificate.
-fn answer(alloc: Global, case: &Case) -> Option<Accepted> {
-    if case.text.len() > 2000 {
+/// The input that a short text is.
+fn input(alloc: Global, text: &[u8]) -> Option<Input> {
+    if text.len() > 2000 {
         return None;
     }
-    let input = read_input(alloc, case.text).ok()?;
-    let mut polynomials = Vec::new(alloc);
-    for &terms in case.polynomials {
-        let p = polynomial(alloc, terms).ok()?;
-        polynomials.push(p).ok()?;
+    read_input(alloc, text).ok()
+}
+
+fn polynomials(alloc: Global, sums: &[Terms]) -> Result<Vec<Poly>, NoMemory> {
+    let mut made = Vec::new(alloc);
+    for terms in sums {
+        made.push(polynomial(alloc, terms)?)?;
     }
-    if polynomials.len() > 100 {
+    Ok(made)
+}
+
+fn monomial_answer(alloc: Global, case: &MonomialCase) -> Option<Accepted> {
+    let input = input(alloc, case.0)?;
+    let cofactors = polynomials(alloc, case.3).ok()?;
+    if cofactors.len() > 100 {
         return None;
     }
-    let Some(power) = case.power else {
-        let cert = FaceCert::Free { basis: polynomials };
-        return accept(alloc, &input, case.mask, &cert).ok();
-    };
-    let cert = FaceCert::Monomial {
-        power,
-        cofactors: polynomials,
-    };
-    accept(alloc, &input, case.mask, &cert).ok()
+    let power = case.2;
+    let cert = FaceCert::Monomial { power, cofactors };
+    accept(alloc, &input, case.1, &cert).ok()
+}
+
+fn free_answer(alloc: Global, case: &FreeCase) -> Option<Accepted> {
+    let input = input(alloc, case.0)?;
+    let basis = polynomials(alloc, case.2).ok()?;
+    if basis.len() > 100 {
+        return None;
+    }
+    accept(alloc, &input, case.1, &FaceCert::Free { basis }).ok()
 }
 
 /// Takes a type that threads may share and move.
-fn shared<T: Send + Sync>(_value: Option<T>) {}
+fn shared<T: Send + Sync + Drop>(_value: Option<T>) {}
 
 #[test]
 fn certificates_are_judged(rt: HostRuntime) -> Result<(), Fail> {
     shared::<FaceVerdict>(None);
     for (i, case) in MONOMIAL_CASES.iter().enumerate() {
-        let given = answer(rt.alloc(), case);
-        assert!(rt; given == Some(case.answer), "monomial case {i}");
+        let answer = monomial_answer(rt.alloc(), case);
+        assert!(rt; answer == Some(case.4), "monomial case {i}");
     }
     for (i, case) in FREE_CASES.iter().enumerate() {
-        let given = answer(rt.alloc(), case);
-        assert!(rt; given == Some(case.answer), "free case {i}");
+        let answer = free_answer(rt.alloc(), case);
+        assert!(rt; answer == Some(case.3), "free case {i}");
     }
     Ok(())
 }

@@ -1,8 +1,7 @@
-use Rattle.std.proofs.Common.{rules, ◌≡◌, ◌≤◌, refl, sym, ap, subst, ◌∙◌, arith}
+use Rattle.std.proofs.Common.{rules, ◌≡◌, ◌≤◌, refl, ap, ◌∙◌, arith}
 use Rattle.std.proofs.lemmas.Result.{IfOk-weaker}
 use Rattle.git_algebra.specs.Exponents.{Exponents, one, times, power, variable_power, degree}
 use Rattle.git_algebra.specs.Sums.{unit}
-use Rattle.git_algebra.specs.Polynomials.{Polynomial, normal}
 use Rattle.git_algebra.specs.Operations.{one_polynomial, minus, term_of}
 use Rattle.git_ideals.specs.Ideals.{clearing, monomial, y}
 use Rattle.git_ideals.specs.Faces.{face_monomial}

@@ -1,6 +1,5 @@
-use Rattle.std.proofs.Common.{rules, ◌≡◌, ◌+◌, ◌≤◌, ◌%◌, ℕ, sym, ap, ◌∙◌, subst, arith}
-use Rattle.std.specs.Prelude.{IsSome, ◌/◌, ◌^◌}
-use Rattle.git_algebra.specs.Exponents.{Exponents, times, variable_power, degree}
+use Rattle.std.proofs.Common.{rules, ◌≡◌, ◌+◌, ◌≤◌, ap, ◌∙◌, arith}
+use Rattle.git_algebra.specs.Exponents.{times, variable_power, degree}
 use Rattle.git_poly.proofs.TermLists.{some_unless_none}
 use Rattle.git_facecert.proofs.FacePowers.{power_below, power_whole, degree_small, with_one, without_one}
 use Rattle.git_facecert.proofs.face.face_power.Goals as goal
@@ -13,9 +12,9 @@ pub unwrap-product-requires : goal.unwrap-product-requires
 unwrap-product-requires c =
     let variable : c.unwrap-variable.result ≡ variable_power c.loop-i.i c.args.exponent = search rules in
     let whole : times c.loop-i.product c.unwrap-variable.result ≡ power_below c.args.mask c.args.exponent (c.loop-i.i + 1) =
-        (λ t. times (c.loop-i.invariant t) (variable t)) ∙ with_one c.args.mask c.args.exponent c.loop-i.i c.if-mask-i-eq1.true in
+    (λ t. times (c.loop-i.invariant t) (variable t)) ∙ with_one c.args.mask c.args.exponent c.loop-i.i c.if-mask-i-eq1.true in
     let fits : degree (times c.loop-i.product c.unwrap-variable.result) ≤ 67108864 =
-        omega (arith, ap degree whole, degree_small c.args.mask c.args.exponent (c.loop-i.i + 1), c.requires) in
+    omega (arith, ap degree whole, degree_small c.args.mask c.args.exponent (c.loop-i.i + 1), c.requires) in
     some_unless_none c.times.result (λ none. omega (arith, c.times.ensures.none.0 none, fits))
 
 pub loop-i-preserved : goal.loop-i-preserved

@@ -1,4 +1,4 @@
-use Rattle.std.proofs.Common.{rules, ◌<◌, ℕ, length, arith}
+use Rattle.std.proofs.Common.{rules, ◌<◌, ℕ, length}
 use Rattle.git_facecert.specs.Answers.{PairDivides, FirstPartner}
 use Rattle.git_facecert.proofs.Pairs.{one_first, first_pair_is, all_pairs}
 use Rattle.git_facecert.proofs.free.first_pair.Goals as goal

@@ -1,4 +1,4 @@
-use Rattle.std.proofs.Common.{rules, arith}
+use Rattle.std.proofs.Common.{arith}
 use Rattle.git_facecert.proofs.Pairs.{one_partner}
 use Rattle.git_facecert.proofs.free.first_partner.Goals as goal
 

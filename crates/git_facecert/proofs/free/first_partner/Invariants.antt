@@ -1,4 +1,4 @@
-use Rattle.std.proofs.Common.{ℕ, ◌<◌, ◌≤◌}
+use Rattle.std.proofs.Common.{ℕ, ◌<◌}
 use Rattle.git_facecert.specs.Answers.{PairDivides}
 use Rattle.git_facecert.proofs.free.first_partner.Given as goal
 

@@ -1,6 +1,5 @@
-use Rattle.std.proofs.Common.{rules, ◌≡◌, ◌≤◌, Err, ap, subst, sym, ◌∙◌, arith}
+use Rattle.std.proofs.Common.{rules, Err, ap, ◌∙◌, arith}
 use Rattle.std.proofs.lemmas.Result.{IfOk-weaker}
-use Rattle.git_algebra.specs.Polynomials.{Polynomial}
 use Rattle.git_algebra.specs.Operations.{total_degree}
 use Rattle.git_ideals.specs.Division.{member, IsSPolynomial}
 use Rattle.git_facecert.specs.Certificates.{IsMember}

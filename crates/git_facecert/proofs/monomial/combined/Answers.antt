@@ -1,6 +1,5 @@
-use Rattle.std.proofs.Common.{◌≡◌, ◌<◌, ◌≤◌, length, sym, ap, ◌∙◌, arith}
-use Rattle.git_algebra.specs.Polynomials.{Polynomial}
-use Rattle.git_algebra.specs.Operations.{restricted, plus, multiplied, total_degree}
+use Rattle.std.proofs.Common.{◌<◌, ◌≤◌, length, sym, ap, ◌∙◌, arith}
+use Rattle.git_algebra.specs.Operations.{plus, multiplied, total_degree}
 use Rattle.git_ideals.specs.Division.{member}
 use Rattle.git_facecert.proofs.Firsts.{found_member, member_has}
 use Rattle.git_facecert.proofs.Combinations.{combination_more, combination_whole, degree-restricted}
