@@ -2,11 +2,13 @@
 use Rattle.std.specs.Prelude.{◌≡◌, ◌⊎◌, ◌↔◌, ℕ, List, Ok, Option, Some, None}
 use Rattle.git_algebra.specs.Exponents.{Exponents}
 use Rattle.git_algebra.specs.Polynomials.{Polynomial}
-use Rattle.git_ints.specs.Gradings.{Degrees}
+use Rattle.git_ints.specs.Gradings.{Degrees, IsGrading}
 use Rattle.git_poly.specs.Degrees.{IsHomogeneous, AreApart}
 use Rattle.git_text.specs.declared.fault.BadKind.{BadKind}
 use Rattle.git_text.specs.declared.fault.InputFault.TheVariants.{Bad}
 use Rattle.git_text.specs.Grammar.{InputValue, IsInput}
+use Rattle.git_text.specs.Inputs.{AreGenerators}
+use Rattle.git_text.specs.Writing.{input_text}
 use Rattle.git_text.specs.OneDegree.{apart}
 use Rattle.git_text.specs.Reading.{Reads, IsFirstFault}
 
@@ -38,3 +40,7 @@ AreApartAsRead d p (Some pair) = AreApart d.k d.columns p pair.0 pair.1
 
 abbrev pub MonomialsApartAreFound : Type 0
 MonomialsApartAreFound = (d : Degrees) (p : Polynomial) → AreApartAsRead d p (apart d p.terms)
+
+-- the text that is written of an input is read back as it
+abbrev pub WrittenInputsAreReadBack : Type 0
+WrittenInputsAreReadBack = (v : InputValue) → IsGrading v.degrees.k v.degrees.columns → AreGenerators v.degrees v.generators → IsInput (input_text v) v

@@ -5,3 +5,4 @@ pub mod Reading
 pub mod Views
 pub mod Inputs
 pub mod Laws
+pub mod Writing

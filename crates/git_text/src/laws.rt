@@ -1,5 +1,5 @@
 //! Laws of the definitions, each the contract of an empty function.
-ghost use Rattle.git_text.specs.Laws.{OneInput, ReadingIsTheGrammar, OneFirstFault, InputsHaveNoFault, InputOrFirstFault, MonomialsApartAreFound};
+ghost use Rattle.git_text.specs.Laws.{OneInput, ReadingIsTheGrammar, OneFirstFault, InputsHaveNoFault, InputOrFirstFault, MonomialsApartAreFound, WrittenInputsAreReadBack};
 
 /// A text is one input at most.
 pub fn one_input()
@@ -29,4 +29,9 @@ pub fn input_or_first_fault()
 /// The monomials that reading finds apart are the lead's and the greatest of another degree, where there is one.
 pub fn monomials_apart_are_found()
     ensures { MonomialsApartAreFound }
+{}
+
+/// The text that is written of an input is read back as it.
+pub fn written_inputs_are_read_back()
+    ensures { WrittenInputsAreReadBack }
 {}

@@ -128,6 +128,38 @@ fn right_texts_are_read(rt: HostRuntime) {
     assert_eq!(rt; announced_variables(TEXT), 3);
 }
 
+#[test]
+fn what_is_written_is_read_back(rt: HostRuntime) {
+    let alloc = rt.alloc();
+    for (text, columns, generators) in VALUES {
+        let Ok(input) = answer(alloc, text) else {
+            continue;
+        };
+        let Ok(written) = write_input(alloc, &input) else {
+            continue;
+        };
+        match answer(alloc, &written) {
+            Ok(again) => {
+                assert!(rt; has_columns(&again.grading, columns));
+                assert!(rt; has_generators(alloc, &again, generators));
+            }
+            Err(fault) => assert!(rt; false, "{fault:?}"),
+        }
+    }
+}
+
+#[test]
+fn an_input_is_written_with_single_spaces(rt: HostRuntime) {
+    let alloc = rt.alloc();
+    let written = match answer(alloc, VALUES[4].0) {
+        Ok(input) => write_input(alloc, &input),
+        Err(_) => return assert!(rt; false),
+    };
+    let wanted =
+        b"gitfan 1\ngrading 2 3\n1 1 0\n0 1 1\nideal 3\nT(1)*T(3)-T(2)\n0\n0\nend\n".as_slice();
+    assert!(rt; written.is_ok_and(|text| text.as_slice() == wanted));
+}
+
 /// A text, and the line, the column and the kind of its first fault.
 type Fault = (&'static [u8], u32, u32, BadKind);
 
