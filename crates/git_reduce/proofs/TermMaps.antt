@@ -1,5 +1,5 @@
 -- The terms of a map: one more, the greatest, and all of them in descending order.
-use Rattle.std.proofs.Common.{All, zero, suc, ℕ, ◌+◌, ◌-◌, ◌*◌, ◌%◌, ◌<◌, ◌≤◌, ◌≡◌, refl, [], ◌∷◌, ◌++◌, length, take, Some, None, Bool, true, false, cond, sym, ◌∙◌, ap, subst, arith, unwrap_or, slice_get}
+use Rattle.std.proofs.Common.{Option, All, zero, suc, ℕ, ◌+◌, ◌-◌, ◌*◌, ◌%◌, ◌<◌, ◌≤◌, ◌≡◌, refl, [], ◌∷◌, ◌++◌, length, take, Some, None, Bool, true, false, cond, sym, ◌∙◌, ap, subst, arith, unwrap_or, slice_get}
 use Rattle.std.proofs.Math.Nat.{mod-mod, mul_assoc}
 use Rattle.std.specs.List.{AllByRecursion}
 use Rattle.std.specs.List.Sorted.{IsStrictlySortedBy}
@@ -41,16 +41,34 @@ value-remove_entry f m (t ∷ p) = by (nat_cmp (rank m) (rank t.0)) refl (value-
     by Equal e ih = let d : t.1 * f m ≡ t.1 * f t.0 = ap (λ k. t.1 * f k) (rank_injective m t.0 (ranked _ _ Equal e)) in omega (arith, d)
     by Greater e ih = omega (arith, ih)
 
-pub value-insert_entry : (f : Exponents → ℕ) (m : Exponents) (n : ℕ) (p : Sum) → lookup (is_at (on rank nat_cmp m)) p ≡ None → value f (insert_entry (on rank nat_cmp) p m n) ≡ n * f m + value f p
-value-insert_entry f m n [] e = omega arith
-value-insert_entry f m n (t ∷ p) e = by (nat_cmp (rank m) (rank t.0)) e (value-insert_entry f m n p)
+-- a monomial below all keys has no entry
+nothing_at : (n : ℕ) (m : Exponents) (p : Sum) → rank m < n → AllByRecursion (λ y. nat_cmp n (rank y) ≡ Less) (keys_of p) → number_at p m ≡ 0
+nothing_at n m [] h u = refl
+nothing_at n m (t ∷ p) h u = by (nat_cmp (rank m) (rank t.0)) refl (nothing_at n m p h u.1)
   where
-    by : (r : Ordering) → cond (is_eq r) (Some t.1) (lookup (is_at (on rank nat_cmp m)) p) ≡ None
-        → (lookup (is_at (on rank nat_cmp m)) p ≡ None → value f (insert_entry (on rank nat_cmp) p m n) ≡ n * f m + value f p)
-        → value f (match_ordering r ((m, n) ∷ t ∷ p) ((t.0, n) ∷ p) (t ∷ insert_entry (on rank nat_cmp) p m n)) ≡ n * f m + (t.1 * f t.0 + value f p)
-    by Less e ih = refl
-    by Equal e ih = cc
-    by Greater e ih = omega (arith, ih e)
+    above : n < rank t.0
+    above = ranked n (rank t.0) Less (sym u.0)
+
+    by : (r : Ordering) → r ≡ nat_cmp (rank m) (rank t.0) → number_at p m ≡ 0 → unwrap_or (cond (is_eq r) (Some t.1) (lookup (is_at (on rank nat_cmp m)) p)) 0 ≡ 0
+    by Less e ih = ih
+    by Equal e ih = absurd (omega (arith, ranked (rank m) (rank t.0) Equal e, h, above))
+    by Greater e ih = ih
+
+-- what stood in an entry counts once less after it is replaced
+value-insert_entry : (f : Exponents → ℕ) (m : Exponents) (n : ℕ) (p : Sum) → IsStrictlySortedBy (on rank nat_cmp) (keys_of p) → value f (insert_entry (on rank nat_cmp) p m n) + number_at p m * f m ≡ n * f m + value f p
+unfolding IsStrictlySortedBy
+value-insert_entry f m n [] u = omega arith
+value-insert_entry f m n (t ∷ p) u = by (nat_cmp (rank m) (rank t.0)) refl (value-insert_entry f m n p u.1)
+  where
+    by : (r : Ordering) → r ≡ nat_cmp (rank m) (rank t.0) → value f (insert_entry (on rank nat_cmp) p m n) + number_at p m * f m ≡ n * f m + value f p
+        → value f (match_ordering r ((m, n) ∷ t ∷ p) ((t.0, n) ∷ p) (t ∷ insert_entry (on rank nat_cmp) p m n)) + unwrap_or (cond (is_eq r) (Some t.1) (lookup (is_at (on rank nat_cmp m)) p)) 0 * f m ≡ n * f m + (t.1 * f t.0 + value f p)
+    by Less e ih = let none : number_at p m * f m ≡ 0 * f m = ap (λ k. k * f m) (nothing_at (rank t.0) m p (ranked _ _ Less e) u.0) in omega (arith, none)
+    by Equal e ih =
+        let same : m ≡ t.0 = rank_injective m t.0 (ranked _ _ Equal e) in
+        let new : n * f m ≡ n * f t.0 = ap (λ k. n * f k) same in
+        let old : t.1 * f m ≡ t.1 * f t.0 = ap (λ k. t.1 * f k) same in
+        omega (arith, new, old)
+    by Greater e ih = omega (arith, ih)
 
 pub numbers-remove_entry : (m : Exponents) (p : Sum) → AreNumbers p → AreNumbers (remove_entry (is_at (on rank nat_cmp m)) p)
 numbers-remove_entry m [] u = tt
@@ -69,19 +87,49 @@ numbers-insert_entry m n (t ∷ p) h k u = by (nat_cmp (rank m) (rank t.0)) (num
     by Equal ih = (h, k, u.2)
     by Greater ih = (u.0, u.1, ih)
 
--- one term more, where its monomial was taken out first
-pub one_more : (m : Exponents) (c d s : ℕ) (old less : Sum) → less ≡ remove_entry (is_at (on rank nat_cmp m)) old → number_at old m ≡ d → Mod s (d + c)
-    → (new : Sum) → ((f : Exponents → ℕ) → Mod (value f new) (s * f m + value f less)) → Alike new ((m, c) ∷ old)
-one_more m c d s old less e at sum new values = record {
-  values = λ f.
-      mod_trans (values f)
-      (mod_trans (mod_add (mod_mul sum (mod_refl (f m))) (mod_refl (value f less)))
-      (mod_is (let r : value f less + number_at old m * f m ≡ value f old = ap (λ (p : Sum). value f p + number_at old m * f m) e ∙ value-remove_entry f m old in
-      let k : number_at old m * f m ≡ d * f m = ap (λ n. n * f m) at in omega (arith, r, k))));
+-- one term more, where its monomial had no entry
+pub added_alone : (m : Exponents) (c : ℕ) (old new : Sum) → IsStrictlySortedBy (on rank nat_cmp) (keys_of old) → lookup (is_at (on rank nat_cmp m)) old ≡ None → new ≡ insert_entry (on rank nat_cmp) old m c → Alike new ((m, c) ∷ old)
+added_alone m c old new u none e = record {
+  values = λ f. mod_is (
+      let whole : value f new + number_at old m * f m ≡ c * f m + value f old = ap (λ (p : Sum). value f p + number_at old m * f m) e ∙ value-insert_entry f m c old u in
+      let nothing : number_at old m * f m ≡ 0 * f m = ap (λ (o : Option ℕ). unwrap_or o 0 * f m) none in
+      omega (arith, whole, nothing));
 }
 
-pub sum_is : (r s c d : ℕ) → r ≡ (d + c) % 32003 → s ≡ r → Mod s (d + c)
-sum_is r s c d e is = record { same = ap (λ n. n % 32003) (is ∙ e) ∙ mod-mod (d + c) 32003 }
+-- one term more, where its entry d was replaced by c, and that by the sum s
+replaced : (m : Exponents) (c d s : ℕ) (old middle new : Sum) → IsStrictlySortedBy (on rank nat_cmp) (keys_of old) → lookup (is_at (on rank nat_cmp m)) old ≡ Some d → middle ≡ insert_entry (on rank nat_cmp) old m c → s ≡ (c + d) % 32003
+    → ((f : Exponents → ℕ) → value f new + c * f m ≡ s * f m + value f middle) → Alike new ((m, c) ∷ old)
+replaced m c d s old middle new u found e is last = record {
+  values = λ f.
+      let first : value f middle + number_at old m * f m ≡ c * f m + value f old = ap (λ (p : Sum). value f p + number_at old m * f m) e ∙ value-insert_entry f m c old u in
+      let there : number_at old m * f m ≡ d * f m = ap (λ (o : Option ℕ). unwrap_or o 0 * f m) found in
+      let whole : value f new + d * f m ≡ s * f m + value f old = omega (arith, first, there, last f) in
+      let sum : Mod (s * f m) ((c + d) * f m) = mod_mul (record { same = ap (λ n. n % 32003) is ∙ mod-mod (c + d) 32003 }) (mod_refl (f m)) in
+      less (value f new) (c * f m + value f old) (d * f m) (mod_trans (mod_is whole) (mod_trans (mod_add sum (mod_refl (value f old))) (mod_is (omega arith))));
+}
+  where
+    less : (a b x : ℕ) → Mod (a + x) (b + x) → Mod a b
+    less a b x h =
+        let k : Mod (a + x + 32002 * x) (b + x + 32002 * x) = mod_add h (mod_refl (32002 * x)) in
+        mod_trans (whole a) (mod_trans k (mod_sym (whole b)))
+      where
+        whole : (n : ℕ) → Mod n (n + x + 32002 * x)
+        whole n = record { same = let e : n + x + 32002 * x ≡ n + x * 32003 = omega arith in omega (arith, e) }
+
+pub sum_kept : (m : Exponents) (c d s : ℕ) (old middle new : Sum) → IsStrictlySortedBy (on rank nat_cmp) (keys_of old) → IsStrictlySortedBy (on rank nat_cmp) (keys_of middle) → lookup (is_at (on rank nat_cmp m)) old ≡ Some d
+    → middle ≡ insert_entry (on rank nat_cmp) old m c → lookup (is_at (on rank nat_cmp m)) middle ≡ Some c → s ≡ (c + d) % 32003 → new ≡ insert_entry (on rank nat_cmp) middle m s → Alike new ((m, c) ∷ old)
+sum_kept m c d s old middle new u v found e there is last = replaced m c d s old middle new u found e is (λ f.
+    let whole : value f new + number_at middle m * f m ≡ s * f m + value f middle = ap (λ (p : Sum). value f p + number_at middle m * f m) last ∙ value-insert_entry f m s middle v in
+    let same : number_at middle m * f m ≡ c * f m = ap (λ (o : Option ℕ). unwrap_or o 0 * f m) there in
+    omega (arith, whole, same))
+
+pub sum_taken_out : (m : Exponents) (c d s : ℕ) (old middle new : Sum) → IsStrictlySortedBy (on rank nat_cmp) (keys_of old) → lookup (is_at (on rank nat_cmp m)) old ≡ Some d → middle ≡ insert_entry (on rank nat_cmp) old m c
+    → lookup (is_at (on rank nat_cmp m)) middle ≡ Some c → s ≡ (c + d) % 32003 → s ≡ 0 → new ≡ remove_entry (is_at (on rank nat_cmp m)) middle → Alike new ((m, c) ∷ old)
+sum_taken_out m c d s old middle new u found e there is none last = replaced m c d s old middle new u found e is (λ f.
+    let whole : value f new + number_at middle m * f m ≡ value f middle = ap (λ (p : Sum). value f p + number_at middle m * f m) last ∙ value-remove_entry f m middle in
+    let same : number_at middle m * f m ≡ c * f m = ap (λ (o : Option ℕ). unwrap_or o 0 * f m) there in
+    let zero_times : s * f m ≡ 0 * f m = ap (λ n. n * f m) none in
+    omega (arith, whole, same, zero_times))
 
 -- the first terms of a list, and one more
 take_next : (p : Sum) (i : ℕ) (t : Exponents × ℕ) → slice_get p i ≡ Some t → take (i + 1) p ≡ take i p ++ t ∷ []

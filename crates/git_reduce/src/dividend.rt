@@ -91,12 +91,16 @@ fn add_term(terms: &mut BTreeMap<Mono, Fp>, m: Mono, c: Fp) -> Result<(), NoMemo
     ensures sum { OnOk result (Alike terms.new.entries ((m, c) ∷ terms.old.entries)) }
     ensures numbers { OnOk result (AreNumbers terms.new.entries) }
 {
-    let sum = match terms.remove(&m) {
-        Some(d) => d.add(c),
-        None => c,
-    };
-    if sum.value() != 0 {
-        terms.insert(m, sum)?;
+    if c.value() == 0 {
+        return Ok(());
+    }
+    if let Some(old) = terms.insert(m, c)? {
+        let sum = c.add(old);
+        if sum.value() == 0 {
+            terms.remove(&m);
+        } else {
+            terms.insert(m, sum)?;
+        }
     }
     Ok(())
 }
