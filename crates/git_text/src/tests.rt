@@ -15,10 +15,7 @@ fn answer(alloc: Global, text: &[u8]) -> Result<Input, InputFault> {
 }
 
 fn fault_of(alloc: Global, text: &[u8]) -> Option<InputFault> {
-    match answer(alloc, text) {
-        Ok(_) => None,
-        Err(fault) => Some(fault),
-    }
+    answer(alloc, text).err()
 }
 
 fn has_columns(grading: &Grading, columns: &[&[i128]]) -> bool {
@@ -92,8 +89,22 @@ const VALUES: [Value; 8] = [
     (
         b"gitfan 1\ngrading 1 16\n1 1 1 1 1 1 1 1 1 1 1 1 1 1 1 1\nideal 1\nT(16)+T(1)\nend\n",
         &[
-            &[1], &[1], &[1], &[1], &[1], &[1], &[1], &[1], &[1], &[1], &[1], &[1], &[1], &[1],
-            &[1], &[1],
+            &[1],
+            &[1],
+            &[1],
+            &[1],
+            &[1],
+            &[1],
+            &[1],
+            &[1],
+            &[1],
+            &[1],
+            &[1],
+            &[1],
+            &[1],
+            &[1],
+            &[1],
+            &[1],
         ],
         &[b"T(1)+T(16)"],
     ),
@@ -174,7 +185,12 @@ const HEADS: [Fault; 24] = [
     (b"gitfan 1\ngrading 2 3 0\n", 2, 13, BadKind::Count),
     (b"gitfan 1\ngrading 2 3\n", 3, 1, BadKind::Truncated),
     (b"gitfan 1\ngrading 2 3\n1 1 0\n", 4, 1, BadKind::Truncated),
-    (b"gitfan 1\ngrading 2 3\n1 1 0\n0 1 1", 5, 1, BadKind::Truncated),
+    (
+        b"gitfan 1\ngrading 2 3\n1 1 0\n0 1 1",
+        5,
+        1,
+        BadKind::Truncated,
+    ),
 ];
 
 /// Faults of rows, of the matrix, of the number of generators and of the end.
@@ -184,58 +200,211 @@ const REST: [Fault; 26] = [
     (b"gitfan 1\ngrading 2 3\n1 1 0\n\n", 4, 1, BadKind::Count),
     (b"gitfan 1\ngrading 2 3\n1 1001 0\n", 3, 3, BadKind::Range),
     (b"gitfan 1\ngrading 2 3\n1 1 -1001\n", 3, 5, BadKind::Range),
-    (b"gitfan 1\ngrading 2 3\n0000000000000000001 1 0\n", 3, 1, BadKind::Number),
+    (
+        b"gitfan 1\ngrading 2 3\n0000000000000000001 1 0\n",
+        3,
+        1,
+        BadKind::Number,
+    ),
     (b"gitfan 1\ngrading 2 3\n1 1 0\xa0\n", 3, 5, BadKind::Number),
     (b"gitfan 1\ngrading 2 3\n1 1\r 0\n", 3, 3, BadKind::Number),
-    (b"gitfan 1\ngrading 2 2\n1 2\n0 0\nideals\n", 4, 1, BadKind::Rank),
-    (b"gitfan 1\ngrading 2 2\n1 -1\n0 0\nideals\n", 4, 1, BadKind::Rank),
+    (
+        b"gitfan 1\ngrading 2 2\n1 2\n0 0\nideals\n",
+        4,
+        1,
+        BadKind::Rank,
+    ),
+    (
+        b"gitfan 1\ngrading 2 2\n1 -1\n0 0\nideals\n",
+        4,
+        1,
+        BadKind::Rank,
+    ),
     (b"gitfan 1\ngrading 1 2\n0 0\n", 3, 1, BadKind::Rank),
-    (b"gitfan 1\ngrading 3 2\n1 0\n0 1\n1 1\n", 5, 1, BadKind::Rank),
-    (b"gitfan 1\ngrading 1 2\n1 -1\nideals\n", 3, 1, BadKind::Pointed),
+    (
+        b"gitfan 1\ngrading 3 2\n1 0\n0 1\n1 1\n",
+        5,
+        1,
+        BadKind::Rank,
+    ),
+    (
+        b"gitfan 1\ngrading 1 2\n1 -1\nideals\n",
+        3,
+        1,
+        BadKind::Pointed,
+    ),
     (b"gitfan 1\ngrading 1 2\n1 0", 3, 1, BadKind::Pointed),
-    (b"gitfan 1\ngrading 2 3\n1 0 -1\n0 1 0\n", 4, 1, BadKind::Pointed),
-    (b"gitfan 1\ngrading 2 3\n1 1 0\n0 1 1\nideals 0\n", 5, 1, BadKind::Syntax),
-    (b"gitfan 1\ngrading 2 3\n1 1 0\n0 1 1\nideal\n", 5, 6, BadKind::Count),
-    (b"gitfan 1\ngrading 2 3\n1 1 0\n0 1 1\nideal 65\n", 5, 7, BadKind::Range),
-    (b"gitfan 1\ngrading 2 3\n1 1 0\n0 1 1\nideal 0 0\n", 5, 9, BadKind::Count),
-    (b"gitfan 1\ngrading 2 3\n1 1 0\n0 1 1\nideal 0\n", 6, 1, BadKind::Truncated),
-    (b"gitfan 1\ngrading 2 3\n1 1 0\n0 1 1\nideal 0\n end2\n", 6, 2, BadKind::Syntax),
-    (b"gitfan 1\ngrading 2 3\n1 1 0\n0 1 1\nideal 0\nend end\n\n", 6, 5, BadKind::Count),
-    (b"gitfan 1\ngrading 2 3\n1 1 0\n0 1 1\nideal 0\nend \r\r\n", 6, 5, BadKind::Count),
-    (b"gitfan 1\ngrading 2 3\n1 1 0\n0 1 1\nideal 0\nend\n\n", 7, 1, BadKind::Trailing),
-    (b"gitfan 1\ngrading 2 3\n1 1 0\n0 1 1\nideal 0\nend\r\nx", 7, 1, BadKind::Trailing),
-    (b"gitfan 1\ngrading 2 3\n1 1 0\n0 1 1\nideal 1\nend\n", 6, 1, BadKind::Syntax),
+    (
+        b"gitfan 1\ngrading 2 3\n1 0 -1\n0 1 0\n",
+        4,
+        1,
+        BadKind::Pointed,
+    ),
+    (
+        b"gitfan 1\ngrading 2 3\n1 1 0\n0 1 1\nideals 0\n",
+        5,
+        1,
+        BadKind::Syntax,
+    ),
+    (
+        b"gitfan 1\ngrading 2 3\n1 1 0\n0 1 1\nideal\n",
+        5,
+        6,
+        BadKind::Count,
+    ),
+    (
+        b"gitfan 1\ngrading 2 3\n1 1 0\n0 1 1\nideal 65\n",
+        5,
+        7,
+        BadKind::Range,
+    ),
+    (
+        b"gitfan 1\ngrading 2 3\n1 1 0\n0 1 1\nideal 0 0\n",
+        5,
+        9,
+        BadKind::Count,
+    ),
+    (
+        b"gitfan 1\ngrading 2 3\n1 1 0\n0 1 1\nideal 0\n",
+        6,
+        1,
+        BadKind::Truncated,
+    ),
+    (
+        b"gitfan 1\ngrading 2 3\n1 1 0\n0 1 1\nideal 0\n end2\n",
+        6,
+        2,
+        BadKind::Syntax,
+    ),
+    (
+        b"gitfan 1\ngrading 2 3\n1 1 0\n0 1 1\nideal 0\nend end\n\n",
+        6,
+        5,
+        BadKind::Count,
+    ),
+    (
+        b"gitfan 1\ngrading 2 3\n1 1 0\n0 1 1\nideal 0\nend \r\r\n",
+        6,
+        5,
+        BadKind::Count,
+    ),
+    (
+        b"gitfan 1\ngrading 2 3\n1 1 0\n0 1 1\nideal 0\nend\n\n",
+        7,
+        1,
+        BadKind::Trailing,
+    ),
+    (
+        b"gitfan 1\ngrading 2 3\n1 1 0\n0 1 1\nideal 0\nend\r\nx",
+        7,
+        1,
+        BadKind::Trailing,
+    ),
+    (
+        b"gitfan 1\ngrading 2 3\n1 1 0\n0 1 1\nideal 1\nend\n",
+        6,
+        1,
+        BadKind::Syntax,
+    ),
 ];
 
 /// Faults of polynomials and of what stands around them.
 const POLYNOMIALS: [Fault; 12] = [
-    (b"gitfan 1\ngrading 2 3\n1 1 0\n0 1 1\nideal 1\n", 6, 1, BadKind::Truncated),
-    (b"gitfan 1\ngrading 2 3\n1 1 0\n0 1 1\nideal 1\n \r\n", 6, 2, BadKind::Syntax),
-    (b"gitfan 1\ngrading 2 3\n1 1 0\n0 1 1\nideal 1\n2T(1)\n", 6, 2, BadKind::Syntax),
-    (b"gitfan 1\ngrading 2 3\n1 1 0\n0 1 1\nideal 1\nT(1\r\n", 6, 4, BadKind::Syntax),
-    (b"gitfan 1\ngrading 2 3\n1 1 0\n0 1 1\nideal 1\nT(4)\n", 6, 1, BadKind::Variable),
-    (b"gitfan 1\ngrading 2 3\n1 1 0\n0 1 1\nideal 1\n2*T(0)\n", 6, 3, BadKind::Variable),
-    (b"gitfan 1\ngrading 2 3\n1 1 0\n0 1 1\nideal 1\nT(1)^65\n", 6, 1, BadKind::Range),
-    (b"gitfan 1\ngrading 2 3\n1 1 0\n0 1 1\nideal 1\n +T(1)^40*T(1)^25\n", 6, 3, BadKind::Range),
-    (b"gitfan 1\ngrading 2 3\n1 1 0\n0 1 1\nideal 2\n0\nT(1)+\n", 7, 6, BadKind::Syntax),
-    (b"gitfan 1\ngrading 2 3\n1 1 0\n0 1 1\nideal 2\n0\nend\n", 7, 1, BadKind::Syntax),
-    (b"gitfan 1\ngrading 2 3\n1 1 0\n0 1 1\nideal 1\n0\n0\nend\n", 7, 1, BadKind::Syntax),
-    (b"gitfan 1\ngrading 2 3\n1 1 0\n0 1 1\nideal 1\n0\n", 7, 1, BadKind::Truncated),
+    (
+        b"gitfan 1\ngrading 2 3\n1 1 0\n0 1 1\nideal 1\n",
+        6,
+        1,
+        BadKind::Truncated,
+    ),
+    (
+        b"gitfan 1\ngrading 2 3\n1 1 0\n0 1 1\nideal 1\n \r\n",
+        6,
+        2,
+        BadKind::Syntax,
+    ),
+    (
+        b"gitfan 1\ngrading 2 3\n1 1 0\n0 1 1\nideal 1\n2T(1)\n",
+        6,
+        2,
+        BadKind::Syntax,
+    ),
+    (
+        b"gitfan 1\ngrading 2 3\n1 1 0\n0 1 1\nideal 1\nT(1\r\n",
+        6,
+        4,
+        BadKind::Syntax,
+    ),
+    (
+        b"gitfan 1\ngrading 2 3\n1 1 0\n0 1 1\nideal 1\nT(4)\n",
+        6,
+        1,
+        BadKind::Variable,
+    ),
+    (
+        b"gitfan 1\ngrading 2 3\n1 1 0\n0 1 1\nideal 1\n2*T(0)\n",
+        6,
+        3,
+        BadKind::Variable,
+    ),
+    (
+        b"gitfan 1\ngrading 2 3\n1 1 0\n0 1 1\nideal 1\nT(1)^65\n",
+        6,
+        1,
+        BadKind::Range,
+    ),
+    (
+        b"gitfan 1\ngrading 2 3\n1 1 0\n0 1 1\nideal 1\n +T(1)^40*T(1)^25\n",
+        6,
+        3,
+        BadKind::Range,
+    ),
+    (
+        b"gitfan 1\ngrading 2 3\n1 1 0\n0 1 1\nideal 2\n0\nT(1)+\n",
+        7,
+        6,
+        BadKind::Syntax,
+    ),
+    (
+        b"gitfan 1\ngrading 2 3\n1 1 0\n0 1 1\nideal 2\n0\nend\n",
+        7,
+        1,
+        BadKind::Syntax,
+    ),
+    (
+        b"gitfan 1\ngrading 2 3\n1 1 0\n0 1 1\nideal 1\n0\n0\nend\n",
+        7,
+        1,
+        BadKind::Syntax,
+    ),
+    (
+        b"gitfan 1\ngrading 2 3\n1 1 0\n0 1 1\nideal 1\n0\n",
+        7,
+        1,
+        BadKind::Truncated,
+    ),
 ];
+
+/// The place of the first text of a table whose fault is another one.
+fn first_miss(alloc: Global, table: &[Fault]) -> Option<usize> {
+    for (i, (text, line, column, kind)) in table.iter().enumerate() {
+        let wanted = InputFault::Bad {
+            line: *line,
+            column: *column,
+            kind: *kind,
+        };
+        if fault_of(alloc, text) != Some(wanted) {
+            return Some(i);
+        }
+    }
+    None
+}
 
 #[test]
 fn the_first_fault_is_named(rt: HostRuntime) {
     let alloc = rt.alloc();
-    for table in [HEADS.as_slice(), REST.as_slice(), POLYNOMIALS.as_slice()] {
-        for (text, line, column, kind) in table {
-            let wanted = InputFault::Bad {
-                line: *line,
-                column: *column,
-                kind: *kind,
-            };
-            assert_eq!(rt; fault_of(alloc, text), Some(wanted));
-        }
-    }
+    assert_eq!(rt; first_miss(alloc, &HEADS), None);
+    assert_eq!(rt; first_miss(alloc, &REST), None);
+    assert_eq!(rt; first_miss(alloc, &POLYNOMIALS), None);
 }
 
 #[test]
@@ -255,7 +424,10 @@ fn monomials_of_two_degrees_are_named(rt: HostRuntime) {
         })
     };
     assert_eq!(rt;
-        fault_of(alloc, b"gitfan 1\ngrading 2 3\n1 1 0\n0 1 1\nideal 1\nT(1)+T(2)\n"),
+        fault_of(
+            alloc,
+            b"gitfan 1\ngrading 2 3\n1 1 0\n0 1 1\nideal 1\nT(1)+T(2)\n"
+        ),
         bad(6, 1, variable(0), variable(1))
     );
     assert_eq!(rt;
