@@ -1,17 +1,13 @@
 -- Reading never wants memory: it gives a value or a fault with its place.
-use Rattle.std.proofs.Common.{refl, ◌≡◌, ℕ, zero, suc, ◌+◌, ◌-◌, ◌&&◌, nat_le, Bool, true, false, cond, List, [], ◌∷◌, length, Option, Some, None, Result, Ok, Err}
-use Rattle.std.specs.List.{list_all}
-use Rattle.std.specs.Prelude.{codes, ℤ, pos}
+use Rattle.std.proofs.Common.{refl, ◌≡◌, ℕ, zero, suc, ◌-◌, List, length, Option, Some, None, Result, Ok, Err}
+use Rattle.std.specs.Prelude.{ℤ, pos}
 use Rattle.std.proofs.Math.IntN.{neg_ℤ}
-use Rattle.std.specs.Str.{bytes_eq}
-use Rattle.git_algebra.specs.Exponents.{Exponents, exponent}
+use Rattle.git_algebra.specs.Exponents.{Exponents}
 use Rattle.git_ints.specs.Gradings.{Degrees}
 use Rattle.git_lines.specs.declared.fault.FormFault.{FormFault}
 use Rattle.git_lines.specs.Lines.{RestOfText}
-use Rattle.git_lines.specs.Numbers.{is_digit}
-use Rattle.git_lines.specs.Parts.{Part}
-use Rattle.git_lines.specs.Reading.{◌>>=◌, lift, times, next_line, line_by, word_token, integer_token, no_token, no_line}
-use Rattle.git_lines.specs.Tokens.{Token, RestOfLine, next_token, rest_of_line}
+use Rattle.git_lines.specs.Reading.{◌>>=◌, lift, times, next_line, line_by, integer_token, no_token, no_line}
+use Rattle.git_lines.specs.Tokens.{RestOfLine, rest_of_line}
 use Rattle.git_polytext.specs.declared.fault.PolynomialFault.{PolynomialFault}
 use Rattle.git_polytext.specs.declared.fault.PolynomialFault.TheVariants as polynomial
 use Rattle.git_polytext.specs.Reading.{polynomial_line}

@@ -1,5 +1,5 @@
 -- An input that is written is read back.
-use Rattle.std.proofs.Common.{◌≡◌, ◌⊎◌, inl, inr, ℕ, zero, suc, ◌+◌, ◌<◌, ◌≤◌, ◌^◌, List, [], ◌∷◌, ◌++◌, length, map, get_or, Some, true, refl, sym, ap, ◌∙◌, subst, arith, All}
+use Rattle.std.proofs.Common.{◌≡◌, inl, inr, ℕ, suc, ◌<◌, ◌≤◌, ◌^◌, List, [], ◌∷◌, ◌++◌, length, map, get_or, true, refl, sym, ap, ◌∙◌, subst, arith, All}
 use Rattle.std.specs.Prelude.{ℤ, pos, ◌≤ℤ◌, codes, unsigned_abs}
 use Rattle.std.specs.List.{range_with_len, list_all, AllByRecursion}
 use Rattle.std.specs.Fmt.{decimal, signed_decimal}
@@ -11,9 +11,8 @@ use Rattle.std.proofs.lemmas.List.FromFn.{length-map-range_with_len, get_or-map-
 use Rattle.git_defs.specs.Vectors.{Vector, AllOfLength}
 use Rattle.git_ints.specs.Padded.{AreWithin}
 use Rattle.git_ints.specs.Gradings.{Degrees, IsGrading}
-use Rattle.git_algebra.specs.Exponents.{Exponents, exponent}
 use Rattle.git_algebra.specs.Polynomials.{Polynomial}
-use Rattle.git_poly.specs.Degrees.{AreGradedBy, IsHomogeneous, HasMonomial}
+use Rattle.git_poly.specs.Degrees.{AreGradedBy, IsHomogeneous}
 use Rattle.git_polytext.specs.Printing.{polynomial_text}
 use Rattle.git_polytext.proofs.ReadBack.{read_back}
 use Rattle.git_polytext.proofs.TextBytes.{text_is_plain}
@@ -22,7 +21,7 @@ use Rattle.git_lines.specs.Printing.{spaced}
 use Rattle.git_lines.specs.Grammar.{Together, IsInteger}
 use Rattle.git_lines.proofs.WordLemmas.{words_spaced}
 use Rattle.git_lines.proofs.NumberLemmas.{integer_is_read_back}
-use Rattle.git_text.specs.Grammar.{IsRow, IsGenerator, column_of, columns_of, IsMatrixText, InputValue, IsInputFront, IsInput, contents_of}
+use Rattle.git_text.specs.Grammar.{IsRow, IsGenerator, column_of, columns_of, IsMatrixText, InputValue, IsInputFront, IsInput}
 use Rattle.git_text.specs.Inputs.{AreGenerators}
 use Rattle.git_text.specs.Writing.{row_of_columns, row_line_text, input_lines, input_text}
 use Rattle.git_text.proofs.WrittenLines.{inside_line, IsPlainWord, all_more, word_in_line, contents_back, are_words, spaced_inside, decimal_word, signed_word}
@@ -56,8 +55,8 @@ columns_back : (k : ℕ) (columns : List Vector) → AllOfLength k columns → c
 columns_back k columns each =
     let size : length (columns_of (length columns) (rows_of_columns k columns)) ≡ length columns = length-map-range_with_len (column_of (rows_of_columns k columns)) 0 (length columns) in
     same_by (columns_of (length columns) (rows_of_columns k columns)) columns [] size (λ j lt.
-      get_or-map-range_with_len (column_of (rows_of_columns k columns)) 0 (length columns) j j [] (omega (arith, lt, size)) (omega arith)
-      ∙ column_back k columns j each (omega (arith, lt, size)))
+    get_or-map-range_with_len (column_of (rows_of_columns k columns)) 0 (length columns) j j [] (omega (arith, lt, size)) (omega arith)
+    ∙ column_back k columns j each (omega (arith, lt, size)))
 
 -- ---- rows
 
@@ -117,9 +116,10 @@ rows_inside columns (i ∷ places) each =
 generators_inside : (columns : List Vector) (ps : List Polynomial) → All (AreGradedBy columns) ps → AreInside (map polynomial_text ps)
 generators_inside columns [] each = tt
 generators_inside columns (p ∷ ps) each =
-    let graded = each 0 p (omega arith) in
-    (all_more _ inside_line word_in_line (polynomial_text p) (text_is_plain p (λ a i has. (let small = (graded a has).small i in omega (arith, small)))),
-      generators_inside columns ps (λ j d lt. each (suc j) d (omega (arith, lt))))
+    let graded = each 0 p (omega arith) in (
+      all_more _ inside_line word_in_line (polynomial_text p) (text_is_plain p (λ a i has. (let small = (graded a has).small i in omega (arith, small)))),
+      generators_inside columns ps (λ j d lt. each (suc j) d (omega (arith, lt))),
+    )
 
 generators_are : (d : Degrees) (ps : List Polynomial) → length d.columns ≤ 16 → All (AreGradedBy d.columns) ps → All (λ p. length p.terms ≤ 200) ps → All (IsHomogeneous d.k d.columns) ps
     → Together (IsGenerator d) (map polynomial_text ps) ps
@@ -163,12 +163,16 @@ matrix_text d g =
 lines_inside : (v : InputValue) → IsGrading v.degrees.k v.degrees.columns → AreGenerators v.degrees v.generators → AreInside (input_lines v)
 lines_inside v g a =
     let d = v.degrees in let m = g.matrix in
-    let tail : AreInside (spaced (codes "ideal" ∷ decimal (length v.generators) ∷ []) ∷ map polynomial_text v.generators ++ (codes "end" ∷ [])) =
-        (spaced_inside (codes "ideal" ∷ decimal (length v.generators) ∷ []) (two_words (codes "ideal") (length v.generators) (record { some = omega arith; bytes = refl }) (omega (arith, a.few))),
-          inside_append (map polynomial_text v.generators) (codes "end" ∷ []) (generators_inside d.columns v.generators a.graded) (refl, tt)) in
-    (refl, (
-      spaced_inside (codes "grading" ∷ decimal d.k ∷ decimal (length d.columns) ∷ []) (record { some = omega arith; bytes = refl }, (decimal_word d.k (omega (arith, m.few_rows)), (decimal_word (length d.columns) (omega (arith, m.few_columns)), tt))),
-      inside_append (map (row_line_text d.columns) (range_with_len 0 d.k)) _ (rows_inside d.columns (range_with_len 0 d.k) m.entries) tail))
+    let tail : AreInside (spaced (codes "ideal" ∷ decimal (length v.generators) ∷ []) ∷ map polynomial_text v.generators ++ (codes "end" ∷ [])) = (
+      spaced_inside (codes "ideal" ∷ decimal (length v.generators) ∷ []) (two_words (codes "ideal") (length v.generators) (record { some = omega arith; bytes = refl }) (omega (arith, a.few))),
+      inside_append (map polynomial_text v.generators) (codes "end" ∷ []) (generators_inside d.columns v.generators a.graded) (refl, tt),
+    ) in (
+      refl,
+      (
+        spaced_inside (codes "grading" ∷ decimal d.k ∷ decimal (length d.columns) ∷ []) (record { some = omega arith; bytes = refl }, (decimal_word d.k (omega (arith, m.few_rows)), (decimal_word (length d.columns) (omega (arith, m.few_columns)), tt))),
+        inside_append (map (row_line_text d.columns) (range_with_len 0 d.k)) _ (rows_inside d.columns (range_with_len 0 d.k) m.entries) tail,
+      ),
+    )
 
 front_written : (v : InputValue) → IsGrading v.degrees.k v.degrees.columns → AreGenerators v.degrees v.generators → IsInputFront (input_lines v) v
 front_written v g a = record {

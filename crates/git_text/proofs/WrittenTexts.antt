@@ -28,9 +28,9 @@ pub entry_written : (columns : List Vector) (i n : ℕ) (column : Vector) (z : �
 entry_written columns i n column z out new old lt is e new_is so_far =
     let rest = entry_words (drop (n + 1) columns) i in
     let same : entry_words (drop n columns) i ≡ 32 ∷ signed_decimal z ++ rest =
-        at_drop_more (λ (cs : List Vector). entry_words cs i) columns n column lt
-        ∙ ap (λ (c : Vector). 32 ∷ signed_decimal (get_or c i (pos 0)) ++ rest) (sym is)
-        ∙ ap (λ (y : ℤ). 32 ∷ signed_decimal y ++ rest) (got column i z e) in
+    at_drop_more (λ (cs : List Vector). entry_words cs i) columns n column lt
+    ∙ ap (λ (c : Vector). 32 ∷ signed_decimal (get_or c i (pos 0)) ++ rest) (sym is)
+    ∙ ap (λ (y : ℤ). 32 ∷ signed_decimal y ++ rest) (got column i z e) in
     ap (λ (l : List ℕ). l ++ rest) new_is ∙ append_assoc out (32 ∷ signed_decimal z) rest ∙ ap (λ (l : List ℕ). out ++ l) (sym same) ∙ so_far
 
 pieces : (old w ws : List ℕ) → ((old ++ w) ++ ws) ++ 10 ∷ [] ≡ old ++ ((w ++ ws) ++ 10 ∷ [])
@@ -54,8 +54,8 @@ rows_written columns i out new old new_is so_far =
     let f = row_line_text columns in
     let before = map f (range_with_len 0 i) in
     let more : concat (map ended (map f (range_with_len 0 (i + 1)))) ≡ concat (map ended before) ++ ended (f i) =
-        ap (λ (ls : List (List ℕ)). concat (map ended ls)) (map-range_with_len_more f 0 i i (omega arith)) ∙ joined before (f i ∷ [])
-        ∙ ap (λ (l : List ℕ). concat (map ended before) ++ l) (append-nil (ended (f i))) in
+    ap (λ (ls : List (List ℕ)). concat (map ended ls)) (map-range_with_len_more f 0 i i (omega arith)) ∙ joined before (f i ∷ [])
+    ∙ ap (λ (l : List ℕ). concat (map ended before) ++ l) (append-nil (ended (f i))) in
     new_is ∙ ap (λ (l : List ℕ). l ++ ended (f i)) so_far ∙ append_assoc old (concat (map ended before)) (ended (f i)) ∙ ap (λ (l : List ℕ). old ++ l) (sym more)
 
 pub others_are : (columns : List Vector) → take (length columns - 1) (drop 1 columns) ≡ drop 1 columns

@@ -15,10 +15,7 @@ fn answer(alloc: Global, text: &[u8]) -> Result<Input, InputFault> {
 }
 
 fn fault_of(alloc: Global, text: &[u8]) -> Option<InputFault> {
-    match answer(alloc, text) {
-        Ok(_) => None,
-        Err(fault) => Some(fault),
-    }
+    answer(alloc, text).err()
 }
 
 fn has_columns(grading: &Grading, columns: &[&[i128]]) -> bool {
@@ -387,19 +384,27 @@ const POLYNOMIALS: [Fault; 12] = [
     ),
 ];
 
+/// The place of the first text of a table whose fault is another one.
+fn first_miss(alloc: Global, table: &[Fault]) -> Option<usize> {
+    for (i, (text, line, column, kind)) in table.iter().enumerate() {
+        let wanted = InputFault::Bad {
+            line: *line,
+            column: *column,
+            kind: *kind,
+        };
+        if fault_of(alloc, text) != Some(wanted) {
+            return Some(i);
+        }
+    }
+    None
+}
+
 #[test]
 fn the_first_fault_is_named(rt: HostRuntime) {
     let alloc = rt.alloc();
-    for table in [HEADS.as_slice(), REST.as_slice(), POLYNOMIALS.as_slice()] {
-        for (text, line, column, kind) in table {
-            let wanted = InputFault::Bad {
-                line: *line,
-                column: *column,
-                kind: *kind,
-            };
-            assert_eq!(rt; fault_of(alloc, text), Some(wanted));
-        }
-    }
+    assert_eq!(rt; first_miss(alloc, &HEADS), None);
+    assert_eq!(rt; first_miss(alloc, &REST), None);
+    assert_eq!(rt; first_miss(alloc, &POLYNOMIALS), None);
 }
 
 #[test]

@@ -83,11 +83,7 @@ fn push_count(out: &mut String, count: usize) -> Result<(), AllocError>
     Ok(())
 }
 
-fn push_input(
-    out: &mut String,
-    grading: &Grading,
-    generators: &[Poly],
-) -> Result<(), NoMemory>
+fn push_input(out: &mut String, grading: &Grading, generators: &[Poly]) -> Result<(), NoMemory>
     ensures { OnOk result (string_bytes out.new ≡ string_bytes out.old ++ input_text (record { degrees = grading.now; generators = generators.now })) }
 {
     push_head(out, grading.k(), grading.r())?;

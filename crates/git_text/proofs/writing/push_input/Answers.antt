@@ -14,6 +14,6 @@ pub returns : goal.returns
 returns c =
     let d = c.args.grading.now in let ps = c.args.generators.now in
     let head = c.in_ok-push_head.ensures
-        ∙ (λ i. string_bytes c.args.out.now ++ ended (codes "gitfan 1") ++ ended (spaced (codes "grading" ∷ decimal (c.k.ensures.value i) ∷ decimal (c.r.ensures.value i) ∷ []))) in
+    ∙ (λ i. string_bytes c.args.out.now ++ ended (codes "gitfan 1") ++ ended (spaced (codes "grading" ∷ decimal (c.k.ensures.value i) ∷ decimal (c.r.ensures.value i) ∷ []))) in
     text_written (map (row_line_text d.columns) (range_with_len 0 d.k)) (map polynomial_text ps) (codes "gitfan 1") (spaced (codes "grading" ∷ decimal d.k ∷ decimal (length d.columns) ∷ []))
     (spaced (codes "ideal" ∷ decimal (length ps) ∷ [])) (codes "end") _ _ _ _ _ _ head c.in_ok-push_rows.ensures c.in_ok-push_count.ensures c.in_ok-push_generators.ensures c.in_ok-push_str.ensures.bytes

@@ -1,4 +1,4 @@
-use Rattle.std.proofs.Common.{◌∙◌, ap, List, ℕ, ◌++◌}
+use Rattle.std.proofs.Common.{◌∙◌, ap, List, ◌++◌}
 use Rattle.std.specs.String.{string_bytes}
 use Rattle.git_defs.specs.Vectors.{Vector}
 use Rattle.git_lines.specs.Lines.{ended}
