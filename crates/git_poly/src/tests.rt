@@ -96,6 +96,9 @@ fn products_merge_like_terms(rt: HostRuntime) -> Result<(), Fail> {
     let product = sum.times(alloc, &difference).unwrap_or(zero);
     assert!(rt; is_sum(alloc, &product, &[([2, 0, 0, 0], 1), ([0, 2, 0, 0], -1)])?);
     let square = sum.times(alloc, &sum).unwrap_or(product);
+    let less = square.minus_times(alloc, &monomial([0, 1, 0, 0]), Fp::reduce(2), &sum);
+    let less = less.unwrap_or(difference);
+    assert!(rt; is_sum(alloc, &less, &[([2, 0, 0, 0], 1), ([0, 2, 0, 0], -1)])?);
     assert!(rt;
         is_sum(
             alloc,
@@ -132,6 +135,8 @@ fn terms_are_read_in_descending_order(rt: HostRuntime) -> Result<(), Fail> {
     assert_eq!(rt; next, 8);
     assert_eq!(rt; p.lead(), Some((monomial([1, 1, 0, 0]), Fp::reduce(4))));
     assert_eq!(rt; p.coefficient(&monomial([1, 0, 0, 0])).value(), 0);
+    assert_eq!(rt; (p.total_degree(), p.is_zero()), (2, false));
+    assert_eq!(rt; (p.is_in_face(0b111), p.is_in_face(0x10007)), (false, true));
     assert!(rt;
         is_sum(
             alloc,
@@ -159,6 +164,10 @@ fn products_stop_at_the_degree_limit(rt: HostRuntime) -> Result<(), Fail> {
         (greatest.times(alloc, &variable), Some(PolyFault::Degree)),
         (
             greatest.times_term(alloc, &monomial([1, 0, 0, 0]), Fp::reduce(1)),
+            Some(PolyFault::Degree),
+        ),
+        (
+            one.minus_times(alloc, &monomial([1, 0, 0, 0]), Fp::reduce(1), &greatest),
             Some(PolyFault::Degree),
         ),
         (greatest.times(alloc, &one), None),
