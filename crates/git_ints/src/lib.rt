@@ -1,6 +1,6 @@
 //! Vectors of one to six integers, exact in 128 bits, and gradings: matrices whose columns have full
-//! rank and a pointed cone. Stands on the definitions of vectors and cones; every layer that computes
-//! with vectors stands on it.
+//! rank and a pointed cone. Stands on the definitions of vectors and cones, and on the laws of minors;
+//! every layer that computes with vectors stands on it.
 #![tactic(auto)]
 
 mod arithmetic;
