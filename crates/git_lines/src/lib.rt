@@ -20,9 +20,7 @@ pub use laws::{
     tokens_stand_at_their_columns, words_are_read_back, words_hold_no_space, words_lose_nothing,
 };
 pub use lines::{Line, Lines};
-pub use numbers::{
-    are_digits, integer_of, integer_once_of, natural_of, natural_once_of, value_of,
-};
+pub use numbers::{are_digits, integer_of, integer_once_of, natural_of, natural_once_of, value_of};
 pub use parts::{Part, Parts, Separator};
 pub use tokens::{Cursor, Joining, Token};
 

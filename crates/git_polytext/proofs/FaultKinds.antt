@@ -1,9 +1,8 @@
 -- The faults that reading a line gives.
-use Rattle.std.proofs.Common.{◌≡◌, ℕ, zero, suc, ◌+◌, ◌⊎◌, inl, inr, Bool, true, false, cond, List, [], ◌∷◌, length, ◌-◌, ◌&&◌, Option, Some, None, Result, Ok, Err, refl, sym, ap, ◌∙◌, subst}
+use Rattle.std.proofs.Common.{◌≡◌, ℕ, ◌+◌, inl, inr, Bool, true, false, cond, List, [], ◌∷◌, length, ◌-◌, Option, Some, None, Result, Ok, Err, refl, sym, ap, ◌∙◌, subst}
 use Rattle.std.specs.Prelude.{codes, nat_le}
 use Rattle.std.specs.List.{list_all}
 use Rattle.std.specs.Str.{bytes_eq}
-use Rattle.git_lines.specs.declared.fault.FormFault.{FormFault}
 use Rattle.git_lines.specs.declared.fault.FormKind.TheVariants.{Range, Syntax}
 use Rattle.git_lines.specs.declared.parts.Separator.TheVariants.{Star}
 use Rattle.git_lines.specs.Tokens.{Token, RestOfLine, taken_of, next_token}
@@ -11,13 +10,11 @@ use Rattle.git_lines.specs.Numbers.{is_digit, value_of}
 use Rattle.git_lines.specs.Parts.{Part, parts}
 use Rattle.git_lines.specs.Reading.{◌>>=◌, lift, word_in, word_token}
 use Rattle.git_lines.proofs.Exact.{ok_is, guard_ok, lift_ok}
-use Rattle.git_algebra.specs.Exponents.{Exponents, exponent, one, times, variable_power}
-use Rattle.git_algebra.specs.Sums.{Sum}
+use Rattle.git_algebra.specs.Exponents.{Exponents, one}
 use Rattle.git_algebra.specs.Polynomials.{normal}
 use Rattle.git_polytext.specs.declared.fault.PolynomialFault.{PolynomialFault}
-use Rattle.git_polytext.specs.declared.fault.PolynomialFault.TheVariants.{Form, Variable, NoMemory}
+use Rattle.git_polytext.specs.declared.fault.PolynomialFault.TheVariants.{Form, Variable}
 use Rattle.git_polytext.specs.Pieces.{pieces}
-use Rattle.git_polytext.specs.Terms.{after_sign}
 use Rattle.git_polytext.specs.Reading
 use Rattle.git_polytext.specs.Reading.{number_in, number_sign, bracket_in, bracket_sign, exponent_in, exponent_sign, nothing_in, no_sign, known, raised, power_signs, power_parts, signs_of, begins_term, within_count, begun, first_in, first_factor, term_in, term_part, term_parts, terms_line, polynomial_line}
 use Rattle.git_polytext.specs.Laws.{IsFaultOf}
@@ -165,16 +162,16 @@ unfolding power_signs
 power_tells r start m rest =
     let line = rest.line in
     tells_then line (bracket_sign rest) _ (bracket_tells rest) (λ a ea.
-        let at_a = bracket_keeps rest a ea in
-        tells_then line (number_sign 4 a.1) _ (tells_at line a.1.line _ at_a (number_tells 4 a.1)) (λ i ei.
-            let at_i = number_keeps 4 a.1 i ei ∙ at_a in
-            tells_then line (known r line a.0 i.0) _ (tells_either line _ _ _ (tells_value line tt) (tells_fault line (Variable line a.0) refl)) (λ there et.
-                tells_then line (lift Form (word_token (codes ")") i.1)) _ (tells_at line i.1.line _ at_i (word_tells (codes ")") i.1)) (λ b eb.
-                    let at_b = word_keeps (codes ")") i.1 b eb ∙ at_i in
-                    tells_then line (exponent_sign b) _ (tells_at line b.line _ at_b (exponent_tells b)) (λ e ee.
-                        let at_e = exponent_keeps b e ee ∙ at_b in
-                        tells_then line (raised line start m (i.0 - 1) e.0) _ (tells_either line _ _ _ (tells_value line _) (tells_range line start)) (λ more em.
-                            tells_then line (no_sign e.1) _ (tells_at line e.1.line _ at_e (nothing_tells e.1)) (λ none en. tells_value line more)))))))
+    let at_a = bracket_keeps rest a ea in
+    tells_then line (number_sign 4 a.1) _ (tells_at line a.1.line _ at_a (number_tells 4 a.1)) (λ i ei.
+    let at_i = number_keeps 4 a.1 i ei ∙ at_a in
+    tells_then line (known r line a.0 i.0) _ (tells_either line _ _ _ (tells_value line tt) (tells_fault line (Variable line a.0) refl)) (λ there et.
+    tells_then line (lift Form (word_token (codes ")") i.1)) _ (tells_at line i.1.line _ at_i (word_tells (codes ")") i.1)) (λ b eb.
+    let at_b = word_keeps (codes ")") i.1 b eb ∙ at_i in
+    tells_then line (exponent_sign b) _ (tells_at line b.line _ at_b (exponent_tells b)) (λ e ee.
+    let at_e = exponent_keeps b e ee ∙ at_b in
+    tells_then line (raised line start m (i.0 - 1) e.0) _ (tells_either line _ _ _ (tells_value line _) (tells_range line start)) (λ more em.
+    tells_then line (no_sign e.1) _ (tells_at line e.1.line _ at_e (nothing_tells e.1)) (λ none en. tells_value line more)))))))
 
 powers_tell : (r line start : ℕ) (m : Exponents) (ps : List Part) → Tells line (power_parts r line start m ps)
 unfolding power_parts

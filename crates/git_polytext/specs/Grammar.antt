@@ -11,7 +11,7 @@ use Rattle.git_algebra.specs.Polynomials.{Polynomial, normal}
 use Rattle.git_polytext.specs.Pieces.{signs, pieces}
 use Rattle.git_polytext.specs.Terms.{after_sign, product_of}
 
--- digits alone, at most so many, that spell a number
+-- a token of digits alone, at most so many, and the number that it spells; each token has a byte
 pub record IsNumber (limit : ℕ) (digits : List ℕ) (n : ℕ) : Type 0 where
   pub all : list_all is_digit digits ≡ true
   pub few : length digits ≤ limit

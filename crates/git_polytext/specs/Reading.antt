@@ -124,6 +124,7 @@ first_in full r rest (Some p) = do
 unfoldable pub first_factor : Bool → ℕ → RestOfLine → Result (ℕ × (Exponents × ℕ)) PolynomialFault
 first_factor full r rest = first_in full r rest (next_token rest)
 
+-- there is always a first part
 abbrev pub term_in : Bool → ℕ → ℕ → Option ℕ → List Part → Result (Exponents × ℕ) PolynomialFault
 term_in full r line sign [] = fault_at line 1 Syntax
 term_in full r line sign (p ∷ ps) = do
