@@ -1,5 +1,6 @@
-//! The reader of the input text, exact against a grammar: a grading and the generators of an ideal, or the first fault
-//! with its place. Stands on the reading of lines and polynomials and on gradings; the program's calls stand on it.
+//! The input text: a grading and the generators of an ideal. Its reader is exact against a grammar and names the first
+//! fault with its place, and what its printer writes is read back. Stands on the reading and printing of lines and
+//! polynomials and on gradings; the program's calls stand on it.
 #![tactic(auto)]
 
 mod columns;
@@ -13,6 +14,7 @@ mod rows;
 mod writing;
 
 pub use fault::{BadKind, InputFault};
+pub use git_polytext::print_poly;
 pub use input::{Input, announced_variables, read_input};
 pub use laws::{
     input_or_first_fault, inputs_have_no_fault, monomials_apart_are_found, one_first_fault,
