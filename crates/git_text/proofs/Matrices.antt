@@ -7,11 +7,11 @@ use Rattle.std.proofs.lemmas.List.{length-map}
 use Rattle.std.proofs.lemmas.List.FromFn.{length-map-range_with_len, get_or-map-range_with_len}
 use Rattle.git_defs.specs.Vectors.{Vector, AllOfLength}
 use Rattle.git_ints.specs.Padded.{AreWithin}
-use Rattle.git_ints.specs.Gradings.{IsMatrix}
+use Rattle.git_ints.specs.Gradings.{Degrees, IsMatrix, IsGrading}
 use Rattle.git_lines.specs.Lines.{RestOfText}
 use Rattle.git_lines.specs.Grammar.{Together, IsInteger}
 use Rattle.git_text.specs.declared.rows.Row.{Row}
-use Rattle.git_text.specs.Grammar.{IsRow, column_of, columns_of}
+use Rattle.git_text.specs.Grammar.{IsRow, IsMatrixText, column_of, columns_of}
 use Rattle.git_text.specs.Reading.{rows_at}
 use Rattle.git_text.specs.Views.{row_of, rows_of}
 use Rattle.git_text.proofs.ExactText.{rows_take}
@@ -63,6 +63,23 @@ matrix_is k r s after values e some_rows few_rows some_columns few_columns =
       few_columns = omega (arith, size, few_columns);
       lengths = lengths_are k r values t.all_rows;
       entries = entries_are r t.rows values t.rows_are;
+    }
+
+-- the matrix of a text is a grading
+pub text_is_a_grading : (lines : List (List ℕ)) (d : Degrees) → IsMatrixText lines d → IsGrading d.k d.columns
+text_is_a_grading lines d t =
+    let same : (P : List Vector → Type 0) → P (columns_of (length d.columns) t.values) → P d.columns = λ P. subst P (sym t.columns_are) in
+    record {
+      matrix = record {
+        some_rows = omega (arith, ints, t.sizes_are.rank_is.above);
+        few_rows = omega (arith, ints, t.sizes_are.rank_is.below);
+        some_columns = omega (arith, ints, t.sizes_are.size_is.above);
+        few_columns = omega (arith, ints, t.sizes_are.size_is.below);
+        lengths = same (AllOfLength d.k) (lengths_are d.k (length d.columns) t.values t.all_rows);
+        entries = same (All (AreWithin 1000)) (entries_are (length d.columns) t.rows t.values t.rows_are);
+      };
+      rank = t.rank;
+      pointed = t.pointed;
     }
 
 -- ---- the rows as the code has them

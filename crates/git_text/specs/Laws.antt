@@ -16,6 +16,10 @@ use Rattle.git_text.specs.Reading.{Reads, IsFirstFault}
 abbrev pub OneInput : Type 0
 OneInput = (bytes : List ℕ) (v w : InputValue) → IsInput bytes v → IsInput bytes w → v ≡ w
 
+-- the matrix of an input is a grading
+abbrev pub InputsAreGraded : Type 0
+InputsAreGraded = (bytes : List ℕ) (v : InputValue) → IsInput bytes v → IsGrading v.degrees.k v.degrees.columns
+
 -- what is read from the left is what the grammar says
 abbrev pub ReadingIsTheGrammar : Type 0
 ReadingIsTheGrammar = (bytes : List ℕ) (v : InputValue) → (Reads bytes (Ok v) ↔ IsInput bytes v)

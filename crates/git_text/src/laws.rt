@@ -1,9 +1,14 @@
 //! Laws of the definitions, each the contract of an empty function.
-ghost use Rattle.git_text.specs.Laws.{OneInput, ReadingIsTheGrammar, OneFirstFault, InputsHaveNoFault, InputOrFirstFault, MonomialsApartAreFound, WrittenInputsAreReadBack};
+ghost use Rattle.git_text.specs.Laws.{OneInput, InputsAreGraded, ReadingIsTheGrammar, OneFirstFault, InputsHaveNoFault, InputOrFirstFault, MonomialsApartAreFound, WrittenInputsAreReadBack};
 
 /// A text is one input at most.
 pub fn one_input()
     ensures { OneInput }
+{}
+
+/// The matrix of an input is a grading.
+pub fn inputs_are_graded()
+    ensures { InputsAreGraded }
 {}
 
 /// What is read from the left is what the grammar says.
