@@ -10,3 +10,4 @@ pub mod ManyLines
 pub mod NumberLemmas
 pub mod WordLemmas
 pub mod FieldLemmas
+pub mod Extents

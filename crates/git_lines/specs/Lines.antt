@@ -1,5 +1,5 @@
 -- The lines of a text.
-use Rattle.std.specs.Prelude.{ℕ, ◌-◌, ◌==◌, Bool, not, if◌then◌else◌, List, [], ◌∷◌, ◌++◌, length, map, take, drop, slice_index}
+use Rattle.std.specs.Prelude.{ℕ, ◌+◌, ◌-◌, ◌≤◌, ◌==◌, Bool, not, if◌then◌else◌, List, [], ◌∷◌, ◌++◌, length, map, take, drop, slice_index}
 
 -- the byte goes before the first line
 abbrev pub onto_first : ℕ → List (List ℕ) → List (List ℕ)
@@ -47,3 +47,7 @@ pub record NumberedLine : Type 0 where
 -- the lines that are left, without their ends
 abbrev pub contents : RestOfText → List (List ℕ)
 contents text = map content text.lines
+
+-- the column of a byte of a line of so many bytes, or the one past its end
+abbrev pub IsColumnOf : ℕ → ℕ → Type 0
+IsColumnOf size column = (1 ≤ column) × (column ≤ size + 1)

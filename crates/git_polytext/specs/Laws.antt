@@ -2,6 +2,7 @@
 use Rattle.std.specs.Prelude.{◌≡◌, ℕ, ◌≤◌, ◌<◌, ◌^◌, ◌&&◌, ◌==◌, not, true, List, length, Ok, Err, ◌⊎◌}
 use Rattle.std.specs.List.{list_all}
 use Rattle.git_lines.specs.declared.fault.FormKind.TheVariants.{Range, Syntax}
+use Rattle.git_lines.specs.Lines.{IsColumnOf}
 use Rattle.git_defs.specs.Vectors.{Vector}
 use Rattle.git_algebra.specs.Exponents.{Exponents, exponent}
 use Rattle.git_algebra.specs.Polynomials.{Polynomial}
@@ -24,15 +25,15 @@ LinesAreRead = (r line : ℕ) (content : List ℕ) (p : Polynomial) → r ≤ 16
 abbrev pub LinesHaveOneValue : Type 0
 LinesHaveOneValue = (r : ℕ) (content : List ℕ) (p q : Polynomial) → r ≤ 16 → IsPolynomialLine r content p → IsPolynomialLine r content q → p ≡ q
 
--- a fault of the line with this number, of a kind that comes
-abbrev pub IsFaultOf : ℕ → PolynomialFault → Type 0
-IsFaultOf line (Form f) = (f.line ≡ line) × ((f.kind ≡ Syntax) ⊎ (f.kind ≡ Range))
-IsFaultOf line (Variable at column) = at ≡ line
-IsFaultOf line NoMemory = ⊥
+-- a fault within the line with this number and so many bytes, or one past its end, of a kind that comes
+abbrev pub IsFaultOf : ℕ → ℕ → PolynomialFault → Type 0
+IsFaultOf line size (Form f) = (f.line ≡ line) × IsColumnOf size f.column × ((f.kind ≡ Syntax) ⊎ (f.kind ≡ Range))
+IsFaultOf line size (Variable at column) = (at ≡ line) × IsColumnOf size column
+IsFaultOf line size NoMemory = ⊥
 
--- the faults of a line name it, and want of memory is none of them
-abbrev pub FaultsNameTheLine : Type 0
-FaultsNameTheLine = (r line : ℕ) (content : List ℕ) (e : PolynomialFault) → polynomial_line r line content ≡ Err e → IsFaultOf line e
+-- the faults of a line lie in it or one past its end, and want of memory is none of them
+abbrev pub FaultsLieInTheLine : Type 0
+FaultsLieInTheLine = (r line : ℕ) (content : List ℕ) (e : PolynomialFault) → polynomial_line r line content ≡ Err e → IsFaultOf line (length content) e
 
 -- the monomials of a line are ones in its variables, with exponents of at most 64
 abbrev pub LinesAreGraded : Type 0

@@ -1,5 +1,5 @@
 //! Laws of the definitions, each the contract of an empty function.
-ghost use Rattle.git_polytext.specs.Laws.{LinesReadAreLines, LinesAreRead, LinesHaveOneValue, FaultsNameTheLine, LinesAreGraded, PolynomialsAreReadBack, PolynomialTextsArePlain};
+ghost use Rattle.git_polytext.specs.Laws.{LinesReadAreLines, LinesAreRead, LinesHaveOneValue, FaultsLieInTheLine, LinesAreGraded, PolynomialsAreReadBack, PolynomialTextsArePlain};
 
 /// The value that is read of a line is that of the grammar.
 pub fn lines_read_are_lines()
@@ -16,9 +16,9 @@ pub fn lines_have_one_value()
     ensures { LinesHaveOneValue }
 {}
 
-/// The faults of a line name it; a fault of form is `Syntax` or `Range`, and reading alone never wants memory.
-pub fn faults_name_the_line()
-    ensures { FaultsNameTheLine }
+/// The faults of a line lie in it or one past its end, and want of memory is none of them.
+pub fn faults_lie_in_the_line()
+    ensures { FaultsLieInTheLine }
 {}
 
 /// The monomials of a line are ones in its variables, with exponents of at most 64.

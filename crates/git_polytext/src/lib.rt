@@ -10,7 +10,7 @@ mod terms;
 
 pub use fault::PolynomialFault;
 pub use laws::{
-    faults_name_the_line, lines_are_graded, lines_are_read, lines_have_one_value,
+    faults_lie_in_the_line, lines_are_graded, lines_are_read, lines_have_one_value,
     lines_read_are_lines, polynomial_texts_are_plain, polynomials_are_read_back,
 };
 pub use printing::{append_poly, print_poly};

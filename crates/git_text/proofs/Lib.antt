@@ -14,3 +14,4 @@ pub mod Totality
 pub mod WrittenLines
 pub mod ReadBackInputs
 pub mod WrittenTexts
+pub mod FaultPlaces

@@ -34,11 +34,11 @@ placed_form : {A : Type 0} (r : Result A FormFault) → Placed (as_input r)
 placed_form (Ok x) = tt
 placed_form (Err f) = tt
 
-placed_polynomial : {A : Type 0} (line : ℕ) (r : Result A PolynomialFault) → ((e : PolynomialFault) → r ≡ Err e → IsFaultOf line e) → Placed (lift polynomial_bad r)
-placed_polynomial line (Ok x) h = tt
-placed_polynomial line (Err (polynomial.Form f)) h = tt
-placed_polynomial line (Err (polynomial.Variable at column)) h = tt
-placed_polynomial line (Err polynomial.NoMemory) h = h polynomial.NoMemory refl
+placed_polynomial : {A : Type 0} (line size : ℕ) (r : Result A PolynomialFault) → ((e : PolynomialFault) → r ≡ Err e → IsFaultOf line size e) → Placed (lift polynomial_bad r)
+placed_polynomial line size (Ok x) h = tt
+placed_polynomial line size (Err (polynomial.Form f)) h = tt
+placed_polynomial line size (Err (polynomial.Variable at column)) h = tt
+placed_polynomial line size (Err polynomial.NoMemory) h = h polynomial.NoMemory refl
 
 placed_times : {A S : Type 0} (step : S → Result (A × S) InputFault) → ((s : S) → Placed (step s)) → (n : ℕ) (s : S) → Placed (times step n s)
 unfolding times
@@ -72,7 +72,7 @@ homogeneous_placed line number (Some pair) = tt
 generator_placed : (d : Degrees) (before n : ℕ) (l : List ℕ) → Placed (generator_line d before n l)
 unfolding generator_line
 generator_placed d before n l =
-    placed_then (lift polynomial_bad (polynomial_line (length d.columns) n l)) _ (placed_polynomial n (polynomial_line (length d.columns) n l) (line_tells (length d.columns) n l))
+    placed_then (lift polynomial_bad (polynomial_line (length d.columns) n l)) _ (placed_polynomial n (length l) (polynomial_line (length d.columns) n l) (line_tells (length d.columns) n l))
     (λ p. placed_then (homogeneous_by n (n - before) (apart d p.terms)) _ (homogeneous_placed n (n - before) (apart d p.terms)) (λ one. tt))
 
 generators_placed : (d : Degrees) (s : RestOfText) → Placed (generators_at d s)

@@ -1,12 +1,14 @@
 -- What holds of inputs.
-use Rattle.std.specs.Prelude.{◌≡◌, ◌⊎◌, ◌↔◌, ℕ, List, Ok, Option, Some, None}
+use Rattle.std.specs.Prelude.{◌≡◌, ◌≢◌, ◌⊎◌, ◌↔◌, ℕ, ◌+◌, ◌-◌, ◌≤◌, List, [], length, take, slice_index_or, Ok, Option, Some, None}
 use Rattle.git_algebra.specs.Exponents.{Exponents}
 use Rattle.git_algebra.specs.Polynomials.{Polynomial}
 use Rattle.git_ints.specs.Gradings.{Degrees, IsGrading}
 use Rattle.git_poly.specs.Degrees.{IsHomogeneous, AreApart}
 use Rattle.git_text.specs.declared.fault.BadKind.{BadKind}
 use Rattle.git_text.specs.declared.fault.InputFault.TheVariants.{Bad}
-use Rattle.git_text.specs.Grammar.{InputValue, IsInput}
+use Rattle.git_lines.specs.Lines.{IsColumnOf}
+use Rattle.git_text.specs.declared.fault.BadKind.TheVariants.{Truncated, Trailing}
+use Rattle.git_text.specs.Grammar.{InputValue, IsInput, contents_of}
 use Rattle.git_text.specs.Inputs.{AreGenerators}
 use Rattle.git_text.specs.Writing.{input_text}
 use Rattle.git_text.specs.OneDegree.{apart}
@@ -28,6 +30,21 @@ ReadingIsTheGrammar = (bytes : List ℕ) (v : InputValue) → (Reads bytes (Ok v
 abbrev pub OneFirstFault : Type 0
 OneFirstFault = (bytes : List ℕ) (line column line2 column2 : ℕ) (kind kind2 : BadKind) → IsFirstFault bytes line column kind → IsFirstFault bytes line2 column2 kind2
     → Bad line column kind ≡ Bad line2 column2 kind2
+
+-- the line with this number and the column of a byte of it; or one past the last line, or one past the line's end
+pub record IsPlaceIn (lines : List (List ℕ)) (line column : ℕ) : Type 0 where
+  pub some_line : 1 ≤ line
+  pub few_lines : line ≤ length lines + 1
+  pub inside : IsColumnOf (length (slice_index_or lines (line - 1) [])) column
+
+-- a first fault lies in the text
+abbrev pub FaultsLieInTheText : Type 0
+FaultsLieInTheText = (bytes : List ℕ) (line column : ℕ) (kind : BadKind) → IsFirstFault bytes line column kind → IsPlaceIn (contents_of bytes) line column
+
+-- but for what is missing or too much at the end, the first fault is that of each text with the same lines up to its own
+abbrev pub LaterLinesDoNotMatter : Type 0
+LaterLinesDoNotMatter = (bytes other : List ℕ) (line column : ℕ) (kind : BadKind) → IsFirstFault bytes line column kind → kind ≢ Truncated → kind ≢ Trailing
+    → take line (contents_of bytes) ≡ take line (contents_of other) → IsFirstFault other line column kind
 
 -- an input has none
 abbrev pub InputsHaveNoFault : Type 0

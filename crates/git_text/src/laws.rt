@@ -1,5 +1,5 @@
 //! Laws of the definitions, each the contract of an empty function.
-ghost use Rattle.git_text.specs.Laws.{OneInput, InputsAreGraded, ReadingIsTheGrammar, OneFirstFault, InputsHaveNoFault, InputOrFirstFault, MonomialsApartAreFound, WrittenInputsAreReadBack};
+ghost use Rattle.git_text.specs.Laws.{OneInput, InputsAreGraded, ReadingIsTheGrammar, OneFirstFault, InputsHaveNoFault, InputOrFirstFault, FaultsLieInTheText, MonomialsApartAreFound, WrittenInputsAreReadBack};
 
 /// A text is one input at most.
 pub fn one_input()
@@ -29,6 +29,11 @@ pub fn inputs_have_no_fault()
 /// Each text is an input or has a first fault.
 pub fn input_or_first_fault()
     ensures { InputOrFirstFault }
+{}
+
+/// A first fault lies in the text: its column is that of a byte of its line, or one past the line's end; and its line may be one past the last.
+pub fn faults_lie_in_the_text()
+    ensures { FaultsLieInTheText }
 {}
 
 /// The monomials that reading finds apart are the lead's and the greatest of another degree, where there is one.
