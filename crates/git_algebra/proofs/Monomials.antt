@@ -1,12 +1,12 @@
 -- Laws of monomials, each by places.
-use Rattle.std.proofs.Common.{suc, ◌≡◌, ℕ, ◌+◌, ◌-◌, ◌*◌, ◌<◌, ◌≤◌, List, [], ◌∷◌, max, refl, sym, ap, ◌∙◌, arith, inl, inr}
-use Rattle.std.specs.Prelude.{◌↔◌}
+use Rattle.std.proofs.Common.{suc, ◌≡◌, ◌≢◌, ℕ, ◌+◌, ◌-◌, ◌*◌, ◌<◌, ◌≤◌, List, [], ◌∷◌, max, refl, sym, ap, ◌∙◌, arith, inl, inr, eq-eqb}
+use Rattle.std.specs.Prelude.{◌↔◌, ◌==◌, if◌then◌else◌}
 use Rattle.std.specs.List.{range_with_len, sum_by}
 use Rattle.std.proofs.lemmas.List.{ext_get_or, get_or_past}
 use Rattle.std.proofs.lemmas.List.FromFn.{get_or-map-range_with_len}
 use Rattle.std.proofs.lemmas.List.Sums.{sum-map, sum_by-cons, sum_by-le-sum_by}
-use Rattle.std.proofs.lemmas.Bool.{cases_lt}
-use Rattle.git_algebra.specs.Exponents.{Exponents, same_list, exponent, exponents_by, one, times, power, quotient, lcm, degree, Divides}
+use Rattle.std.proofs.lemmas.Bool.{cases_lt, ne_eqb}
+use Rattle.git_algebra.specs.Exponents.{Exponents, same_list, exponent, exponents_by, one, times, power, variable_power, quotient, lcm, degree, Divides}
 
 pub exponent_past : (a : Exponents) (i : ℕ) → 17 ≤ i → exponent a i ≡ 0
 exponent_past a i past = get_or_past a.list i 0 (omega (arith, a.long))
@@ -45,6 +45,18 @@ exponent-quotient b a i = exponent-by_all (λ k. exponent b k - exponent a k) i 
 pub exponent-lcm : (a b : Exponents) (i : ℕ) → exponent (lcm a b) i ≡ max (exponent a i) (exponent b i)
 unfolding lcm
 exponent-lcm a b i = exponent-by_all (λ k. max (exponent a k) (exponent b k)) i (λ past. omega (arith, exponent_past a i past, exponent_past b i past))
+
+-- ---- a power of a variable
+pub exponent_same : (i e : ℕ) → i < 17 → exponent (variable_power i e) i ≡ e
+unfolding variable_power
+exponent_same i e h = exponent-by (λ k. if i == k then e else 0) i h ∙ (λ j. if eq-eqb i i refl j then e else 0)
+
+pub exponent_other : (i e k : ℕ) → i ≢ k → exponent (variable_power i e) k ≡ 0
+unfolding variable_power
+exponent_other i e k other = elim (cases_lt k 17) [
+  | inl within ↦ exponent-by (λ k. if i == k then e else 0) k within ∙ (λ j. if ne_eqb i k other j then e else 0)
+  | inr past ↦ exponent_past (exponents_by (λ k. if i == k then e else 0)) k past
+]
 
 pub times_comm : (a b : Exponents) → times a b ≡ times b a
 times_comm a b = same_exponents _ _ (λ i _. omega (arith, exponent-times a b i, exponent-times b a i))

@@ -1,10 +1,11 @@
 -- Setting variables to 0 keeps sums and products.
-use Rattle.std.proofs.Common.{ℕ, ◌+◌, ◌*◌, ◌%◌, ◌^◌, ◌≡◌, refl, List, [], ◌∷◌, ◌++◌, sym, ◌∙◌, ap, arith, Bool, true, false, cond, inl, inr, eq-eqb}
-use Rattle.std.specs.Prelude.{◌==◌, ◌||◌, ◌&&◌, ◌/◌, filter, if◌then◌else◌}
+use Rattle.std.proofs.Common.{ℕ, ◌+◌, ◌*◌, ◌%◌, ◌≡◌, refl, List, [], ◌∷◌, ◌++◌, sym, ◌∙◌, ap, arith, Bool, true, false, cond, inl, inr, eq-eqb}
+use Rattle.std.specs.Prelude.{◌==◌, ◌||◌, ◌&&◌, filter, if◌then◌else◌}
 use Rattle.std.specs.List.{list_all, range_with_len}
 use Rattle.std.proofs.lemmas.Bool.{cases_eq, ne_eqb}
 use Rattle.git_algebra.specs.Exponents.{Exponents, exponent, exponents_by, one, times, in_face}
 use Rattle.git_algebra.specs.Order.{rank}
+use Rattle.git_bits.specs.Bits.{has_bit}
 use Rattle.git_algebra.specs.Sums.{Sum, value, product, unit, at as at_monomial, coefficient, Alike}
 use Rattle.git_algebra.specs.Polynomials.{Polynomial}
 use Rattle.git_algebra.specs.Operations.{one_polynomial, plus, multiplied, restricted}
@@ -17,7 +18,7 @@ use Rattle.git_algebra.proofs.Normal.{normal_alike, same_normal, coefficient-nor
 
 -- whether an exponent is 0 or its variable is in the face
 place_in_face : ℕ → Exponents → ℕ → Bool
-place_in_face mask a i = exponent a i == 0 || (mask / 2 ^ i) % 2 == 1
+place_in_face mask a i = exponent a i == 0 || has_bit mask i
 
 sum_is_zero : (x y : ℕ) (b : Bool) → ((x + y) == 0 || b) ≡ ((x == 0 || b) && (y == 0 || b))
 sum_is_zero x y b = elim (cases_eq x 0) [
@@ -38,8 +39,8 @@ sum_is_zero x y b = elim (cases_eq x 0) [
 place_in_face-times : (mask : ℕ) (a b : Exponents) (i : ℕ) → place_in_face mask (times a b) i ≡ (place_in_face mask a i && place_in_face mask b i)
 unfolding place_in_face
 place_in_face-times mask a b i =
-    ap (λ n. n == 0 || (mask / 2 ^ i) % 2 == 1) (exponent-times a b i)
-    ∙ sum_is_zero (exponent a i) (exponent b i) ((mask / 2 ^ i) % 2 == 1)
+    ap (λ n. n == 0 || has_bit mask i) (exponent-times a b i)
+    ∙ sum_is_zero (exponent a i) (exponent b i) (has_bit mask i)
 
 and_exchange : (a b c d : Bool) → ((a && b) && (c && d)) ≡ ((a && c) && (b && d))
 and_exchange true true c d = refl

@@ -6,6 +6,7 @@ use Rattle.std.specs.Coded.{Coded, coded_list, coded_ℕ}
 use mathlib.Core.HLevel.{Σ_prop_path}
 use native.Mathlib.Nat.{ℕ_set}
 use base.Stored.{coded_via}
+use Rattle.git_bits.specs.Bits.{has_bit}
 
 pub record Exponents : Type 0 where
   pub list : List ℕ
@@ -63,4 +64,4 @@ pub record Divides (a b : Exponents) : Type 0 where
 
 -- whether each variable of the monomial is in a face, a set of variables whose mask has bit i for place i
 unfoldable pub in_face : ℕ → Exponents → Bool
-in_face mask a = list_all (λ i. exponent a i == 0 || (mask / 2 ^ i) % 2 == 1) (range_with_len 0 17)
+in_face mask a = list_all (λ i. exponent a i == 0 || has_bit mask i) (range_with_len 0 17)

@@ -5,7 +5,8 @@ use Rattle.std.specs.Prelude.{◌≤ℤ◌, ◌<ℤ◌}
 use Rattle.std.proofs.lemmas.Int.{ints}
 use Rattle.git_defs.specs.Vectors.{Vector, zero_vector, scale, plus, combination}
 use Rattle.git_defs.specs.Cones.{InCone}
-use Rattle.git_defs.proofs.Members.{Member, OfLength, rest_of_length}
+use Rattle.git_lemmas.proofs.Members.{Member}
+use Rattle.git_defs.proofs.Lengths.{OfLength, rest_of_length}
 use Rattle.git_defs.proofs.Sums.{cone_plus, cone_scale, cone_divide, cone_zero, cone_first, cone_later}
 
 pub record IsClosed (k : ℕ) (D : Vector → Type 0) : Type 0 where

@@ -1,5 +1,4 @@
-pub mod Integers
-pub mod Members
+pub mod Lengths
 pub mod Linear
 pub mod Sums
 pub mod Closed

@@ -5,8 +5,9 @@ use Rattle.std.specs.Prelude.{◌≤ℤ◌}
 use Rattle.std.proofs.lemmas.Int.{ints}
 use Rattle.git_defs.specs.Vectors.{Vector, zero_vector, scale, plus, dot, combination}
 use Rattle.git_defs.specs.Cones.{InCone}
-use Rattle.git_defs.proofs.Members.{Member, OfLength, first_of_length, rest_of_length}
-use Rattle.git_defs.proofs.Integers.{mul_comm, diff, diff_add, diff_mul, diff_same, add_nonneg, mul_nonneg, nonneg_of_mul}
+use Rattle.git_lemmas.proofs.Members.{Member}
+use Rattle.git_defs.proofs.Lengths.{OfLength, first_of_length, rest_of_length}
+use Rattle.git_lemmas.proofs.Integers.{mul_comm, diff, diff_add, diff_mul, diff_same, add_nonneg, mul_nonneg, nonneg_of_mul}
 
 step_plus : (n x y d e : ℤ) → n *ℤ (x +ℤ y) +ℤ (d +ℤ e) ≡ (n *ℤ x +ℤ d) +ℤ (n *ℤ y +ℤ e)
 step_plus n x y d e = diff_same (diff_add (diff_mul (diff n) (diff_add (diff x) (diff y))) (diff_add (diff d) (diff e)))

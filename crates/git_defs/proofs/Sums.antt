@@ -4,9 +4,9 @@ use Rattle.std.proofs.Math.IntN.{ℤ, pos, ◌+ℤ◌, ◌*ℤ◌, *ℤ-zero, ze
 use Rattle.std.proofs.Math.Nat.{mul-le-mul}
 use Rattle.git_defs.specs.Vectors.{Vector, zero_vector, scale, plus, combination}
 use Rattle.git_defs.specs.Cones.{InCone}
-use Rattle.git_defs.proofs.Integers.{diff, diff_add, diff_mul, diff_same, mul_assoc}
+use Rattle.git_lemmas.proofs.Integers.{diff, diff_add, diff_mul, diff_same, mul_assoc}
 use Rattle.git_defs.proofs.Linear.{length-plus, length-scale, length-zero, length-combination}
-use Rattle.git_defs.proofs.Members.{OfLength, first_of_length, rest_of_length}
+use Rattle.git_defs.proofs.Lengths.{OfLength, first_of_length, rest_of_length}
 
 -- ---- vectors
 pub scale-plus : (c : ℤ) (u v : Vector) → scale c (plus u v) ≡ plus (scale c u) (scale c v)

@@ -1,12 +1,13 @@
 -- Faces of the orthant by masks, and the distinct cones of the full ones that a test accepts.
-use Rattle.std.specs.Prelude.{◌↔◌, ℕ, ◌<◌, ◌≤◌, ◌^◌, ◌%◌, ◌/◌, ◌==◌, if◌then◌else◌, List, [], ◌∷◌, length, slice_index, Contains, AllPairs}
+use Rattle.std.specs.Prelude.{◌↔◌, ℕ, ◌<◌, ◌≤◌, ◌^◌, ◌/◌, if◌then◌else◌, List, [], ◌∷◌, length, slice_index, Contains, AllPairs}
+use Rattle.git_bits.specs.Bits.{has_bit}
 use Rattle.git_defs.specs.Vectors.{Vector, HasRank}
 use Rattle.git_defs.specs.Cones.{InCone, SameSet}
 
 -- the columns whose bit is set in the mask, the first column having the lowest bit
 abbrev pub face : List Vector → ℕ → List Vector
 face [] mask = []
-face (q ∷ qs) mask = if mask % 2 == 1 then q ∷ face qs (mask / 2) else face qs (mask / 2)
+face (q ∷ qs) mask = if has_bit mask 0 then q ∷ face qs (mask / 2) else face qs (mask / 2)
 
 -- the orbit cone of the face
 abbrev pub face_cone : ℕ → List Vector → ℕ → Vector → Type 0

@@ -1,16 +1,15 @@
 -- Powers of the product of a face's variables, variable by variable.
 use Rattle.std.proofs.Common.{zero, suc, ℕ, ◌+◌, ◌*◌, ◌^◌, ◌<◌, ◌≤◌, ◌≡◌, refl, Bool, true, false, sym, ◌∙◌, ap, arith, inl, inr, eq-eqb, add-one}
-use Rattle.std.specs.Prelude.{◌/◌, ◌%◌, ◌==◌, if◌then◌else◌}
+use Rattle.std.specs.Prelude.{◌==◌, if◌then◌else◌}
 use Rattle.std.specs.List.{range_with_len, sum_by}
 use Rattle.std.proofs.lemmas.Bool.{cases_eq, cases_lt, ne_eqb}
 use Rattle.std.proofs.lemmas.List.Sums.{sum_by-cons}
 use Rattle.git_algebra.specs.Exponents.{Exponents, exponent, one, times, power, variable_power, degree}
-use Rattle.git_algebra.proofs.Monomials.{same_exponents, exponent-by, exponent-one, exponent-times, exponent-power, degree-times, degree_sum}
+use Rattle.git_algebra.proofs.Monomials.{same_exponents, exponent-by, exponent-one, exponent-times, exponent-power, degree-times, degree_sum, exponent_same, exponent_other}
 use Rattle.git_ideals.specs.Faces.{face_monomial}
-
--- whether a variable is in the face
-abbrev pub has_bit : ℕ → ℕ → Bool
-has_bit mask i = (mask / 2 ^ i) % 2 == 1
+use Rattle.git_bits.specs.Bits.{has_bit}
+use Rattle.git_bits.proofs.Bits.{bit_clear}
+use Rattle.git_ideals.proofs.FaceProofs.{exponent-face}
 
 abbrev pub with_variable : Bool → ℕ → ℕ → Exponents → Exponents
 with_variable true i e m = times m (variable_power i e)
@@ -25,18 +24,12 @@ exponent-variable : (i e k : ℕ) → k < 17 → exponent (variable_power i e) k
 unfolding variable_power
 exponent-variable i e k h = exponent-by (λ j. if i == j then e else 0) k h
 
-variable_here : (i e : ℕ) → i < 17 → exponent (variable_power i e) i ≡ e
-variable_here i e h = exponent-variable i e i h ∙ (λ t. if (eq-eqb i i refl) t then e else 0)
-
-variable_elsewhere : (i e k : ℕ) → k < 17 → (i ≡ k → ⊥) → exponent (variable_power i e) k ≡ 0
-variable_elsewhere i e k h other = exponent-variable i e k h ∙ (λ t. if (ne_eqb i k other) t then e else 0)
-
 past_there : (mask e n k : ℕ) → k < 17 → n ≤ k → exponent (power_below mask e n) k ≡ 0
 past_there mask e zero k h past = exponent-one k
 past_there mask e (suc i) k h past = by (has_bit mask i) (past_there mask e i k h (omega arith))
   where
     by : (b : Bool) → exponent (power_below mask e i) k ≡ 0 → exponent (with_variable b i e (power_below mask e i)) k ≡ 0
-    by true ih = omega (arith, exponent-times (power_below mask e i) (variable_power i e) k, ih, variable_elsewhere i e k h (λ same. omega arith))
+    by true ih = omega (arith, exponent-times (power_below mask e i) (variable_power i e) k, ih, exponent_other i e k (λ same. omega arith))
     by false ih = ih
 
 there : (mask e n k : ℕ) → k < 17 → k < n → exponent (power_below mask e n) k ≡ (if has_bit mask k then e else 0)
@@ -47,19 +40,15 @@ there mask e (suc i) k h within = elim (cases_eq k i) [
 ]
   where
     last : (b : Bool) → i < 17 → exponent (with_variable b i e (power_below mask e i)) i ≡ (if b then e else 0)
-    last true low = omega (arith, exponent-times (power_below mask e i) (variable_power i e) i, past_there mask e i i low (omega arith), variable_here i e low)
+    last true low = omega (arith, exponent-times (power_below mask e i) (variable_power i e) i, past_there mask e i i low (omega arith), exponent_same i e low)
     last false low = past_there mask e i i low (omega arith)
 
     at_end : k ≡ i → exponent (with_variable (has_bit mask i) i e (power_below mask e i)) k ≡ (if has_bit mask k then e else 0)
     at_end here = ap (exponent (with_variable (has_bit mask i) i e (power_below mask e i))) here ∙ last (has_bit mask i) (omega (arith, here, h)) ∙ ap (λ j. if has_bit mask j then e else 0) (sym here)
 
     before : (b : Bool) → (i ≡ k → ⊥) → exponent (power_below mask e i) k ≡ (if has_bit mask k then e else 0) → exponent (with_variable b i e (power_below mask e i)) k ≡ (if has_bit mask k then e else 0)
-    before true other ih = omega (arith, exponent-times (power_below mask e i) (variable_power i e) k, variable_elsewhere i e k h other) ∙ ih
+    before true other ih = omega (arith, exponent-times (power_below mask e i) (variable_power i e) k, exponent_other i e k other) ∙ ih
     before false other ih = ih
-
-exponent-face : (mask i : ℕ) → i < 17 → exponent (face_monomial mask) i ≡ (if has_bit mask i then 1 else 0)
-unfolding face_monomial
-exponent-face mask i h = exponent-by (λ k. if has_bit mask k then 1 else 0) i h
 
 -- with the variables at all places below 16 it is the power of the product
 pub power_whole : (mask e : ℕ) → mask < 65536 → power_below mask e 16 ≡ power (face_monomial mask) e
@@ -73,7 +62,7 @@ power_whole mask e small = same_exponents _ _ (λ k h. elim (cases_lt k 16) [
     as_product false = omega arith
 
     none : has_bit mask 16 ≡ false
-    none = ne_eqb ((mask / 2 ^ 16) % 2) 1 (λ one. omega (arith, one, small))
+    none = bit_clear mask 16 (λ one. omega (arith, one, small))
 
     at_last : (k : ℕ) → k < 17 → 16 ≤ k → exponent (power_below mask e 16) k ≡ exponent (power (face_monomial mask) e) k
     at_last k h past =
@@ -102,11 +91,11 @@ pub degree_small : (mask e n : ℕ) → degree (power_below mask e n) ≤ 17 * e
 degree_small mask e n = omega (arith, degree_sum (power_below mask e n), sum_small (exponent (power_below mask e n)) e 0 17 (λ k low high. each_small mask e n k (omega arith)))
 
 -- one variable more
-pub with_one : (mask e i : ℕ) → (mask / 2 ^ i) % 2 ≡ 1 → times (power_below mask e i) (variable_power i e) ≡ power_below mask e (i + 1)
-with_one mask e i set = (λ t. with_variable (sym (eq-eqb ((mask / 2 ^ i) % 2) 1 set) t) i e (power_below mask e i)) ∙ ap (power_below mask e) (sym (add-one i))
+pub with_one : (mask e i : ℕ) → has_bit mask i ≡ true → times (power_below mask e i) (variable_power i e) ≡ power_below mask e (i + 1)
+with_one mask e i set = (λ t. with_variable (sym set t) i e (power_below mask e i)) ∙ ap (power_below mask e) (sym (add-one i))
 
-pub without_one : (mask e i : ℕ) → ((mask / 2 ^ i) % 2 ≡ 1 → ⊥) → power_below mask e i ≡ power_below mask e (i + 1)
-without_one mask e i clear = (λ t. with_variable (sym (ne_eqb ((mask / 2 ^ i) % 2) 1 clear) t) i e (power_below mask e i)) ∙ ap (power_below mask e) (sym (add-one i))
+pub without_one : (mask e i : ℕ) → has_bit mask i ≡ false → power_below mask e i ≡ power_below mask e (i + 1)
+without_one mask e i clear = (λ t. with_variable (sym clear t) i e (power_below mask e i)) ∙ ap (power_below mask e) (sym (add-one i))
 
 each_variable_small : (i e k : ℕ) → k < 17 → exponent (variable_power i e) k ≤ e
 each_variable_small i e k h = omega (arith, exponent-variable i e k h, at_most (i == k))

@@ -7,6 +7,7 @@ ghost use Rattle.git_ideals.specs.Faces.{face_monomial};
 
 use crate::certificate::CERT_POWER;
 use git_base::NoMemory;
+use git_bits::has_bit;
 use git_field::Fp;
 use git_mono::Mono;
 use git_poly::Poly;
@@ -19,7 +20,7 @@ pub(crate) fn face_power(mask: u16, exponent: u32) -> Mono
 {
     let mut product = Mono::one();
     for i in 0..16 {
-        if (mask >> i) % 2 == 1 {
+        if has_bit(u64::from(mask), i as u32) {
             let variable = Mono::power(i, exponent).unwrap();
             product = product.times(&variable).unwrap();
         }

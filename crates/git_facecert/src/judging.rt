@@ -7,12 +7,12 @@ use crate::certificate::{Accepted, FaceCert};
 use crate::free::accept_free;
 use crate::monomial::accept_monomial;
 use git_base::NoMemory;
+use git_input::Input;
 use git_poly::Poly;
-use git_text::Input;
 use std::alloc::Global;
 
 /// Whether a certificate of the face is accepted for these generators, or the place of its first line that fails.
-fn accept_for(
+pub(crate) fn accept_for(
     alloc: Global,
     generators: &[Poly],
     mask: u16,

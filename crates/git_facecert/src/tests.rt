@@ -1,35 +1,42 @@
 //! Certificates worked by hand.
+ghost use Rattle.git_facecert.specs.Answers.{IsOfFewLines};
+
 use crate::Accepted::{self, No, Yes};
 use crate::Place::{Clear, Generator, Member, Pair, Product};
-use crate::{FaceCert, FaceVerdict, accept};
+use crate::judging::accept_for;
+use crate::{CERT_DEGREE, FaceCert, FaceVerdict, accept};
 use git_base::NoMemory;
 use git_field::Fp;
+use git_grading::Grading;
+use git_input::Input;
+use git_ints::IVec;
 use git_mono::Mono;
 use git_poly::Poly;
-use git_text::{Input, read_input};
 use std::alloc::Global;
 use std::test::*;
 
 /// Terms by their exponents of T(1), T(2), T(3) and y, with a number.
 type Terms = &'static [([u32; 4], i128)];
 
-/// A text, a face's mask, the power and the cofactors of a monomial certificate, and its answer.
-type MonomialCase = (&'static [u8], u16, u32, &'static [Terms], Accepted);
+/// Generators, a face's mask, the power and the cofactors of a monomial certificate, and its answer.
+type MonomialCase = (&'static [Terms], u16, u32, &'static [Terms], Accepted);
 
-/// A text, a face's mask, the members of a free certificate, and its answer.
-type FreeCase = (&'static [u8], u16, &'static [Terms], Accepted);
+/// Generators, a face's mask, the members of a free certificate, and its answer.
+type FreeCase = (&'static [Terms], u16, &'static [Terms], Accepted);
 
-const PLANE: &[u8] = b"gitfan 1\ngrading 2 3\n1 1 0\n0 1 1\nideal 0\nend\n";
+const PLANE: &[Terms] = &[];
 
-const PRODUCT: &[u8] = b"gitfan 1\ngrading 2 3\n1 1 0\n0 1 1\nideal 1\nT(1)*T(2)\nend\n";
+const PRODUCT: &[Terms] = &[FIRST_TWO];
 
-const QUADRIC: &[u8] = b"gitfan 1\ngrading 2 3\n2 0 1\n0 2 1\nideal 1\nT(1)*T(2)-T(3)^2\nend\n";
+const QUADRIC: &[Terms] = &[CONIC];
 
-const TWO: &[u8] = b"gitfan 1\ngrading 2 3\n2 0 1\n0 2 1\nideal 2\nT(1)*T(2)\nT(3)^2\nend\n";
+const TWO: &[Terms] = &[FIRST_TWO, &[([0, 0, 2, 0], 1)]];
 
 const ALL_CLEAR: Terms = &[([1, 1, 1, 1], -1), ([0, 0, 0, 0], 1)];
 
 const EDGE_CLEAR: Terms = &[([1, 0, 1, 1], -1), ([0, 0, 0, 0], 1)];
+
+const ON_EDGE: &[Terms] = &[EDGE_CLEAR];
 
 const CONIC: Terms = &[([1, 1, 0, 0], 1), ([0, 0, 2, 0], -1)];
 
@@ -109,14 +116,6 @@ fn polynomial(alloc: Global, terms: Terms) -> Result<Poly, NoMemory> {
     Ok(sum)
 }
 
-/// The input that a short text is.
-fn input(alloc: Global, text: &[u8]) -> Option<Input> {
-    if text.len() > 2000 {
-        return None;
-    }
-    read_input(alloc, text).ok()
-}
-
 fn polynomials(alloc: Global, sums: &[Terms]) -> Result<Vec<Poly>, NoMemory> {
     let mut made = Vec::new(alloc);
     for terms in sums {
@@ -125,24 +124,60 @@ fn polynomials(alloc: Global, sums: &[Terms]) -> Result<Vec<Poly>, NoMemory> {
     Ok(made)
 }
 
+/// The answer to a certificate of few lines, where the generators are small.
+fn answer(alloc: Global, generators: &[Poly], mask: u16, cert: &FaceCert) -> Option<Accepted>
+    requires { IsOfFewLines cert.now }
+{
+    if 100 < generators.len() {
+        return None;
+    }
+    if !generators.iter().all(|f| f.total_degree() <= CERT_DEGREE) {
+        return None;
+    }
+    accept_for(alloc, generators, mask, cert).ok()
+}
+
 fn monomial_answer(alloc: Global, case: &MonomialCase) -> Option<Accepted> {
-    let input = input(alloc, case.0)?;
+    let generators = polynomials(alloc, case.0).ok()?;
     let cofactors = polynomials(alloc, case.3).ok()?;
-    if cofactors.len() > 100 {
+    if 100 < cofactors.len() {
         return None;
     }
     let power = case.2;
     let cert = FaceCert::Monomial { power, cofactors };
-    accept(alloc, &input, case.1, &cert).ok()
+    answer(alloc, &generators, case.1, &cert)
 }
 
 fn free_answer(alloc: Global, case: &FreeCase) -> Option<Accepted> {
-    let input = input(alloc, case.0)?;
+    let generators = polynomials(alloc, case.0).ok()?;
     let basis = polynomials(alloc, case.2).ok()?;
-    if basis.len() > 100 {
+    if 100 < basis.len() {
         return None;
     }
-    accept(alloc, &input, case.1, &FaceCert::Free { basis }).ok()
+    answer(alloc, &generators, case.1, &FaceCert::Free { basis })
+}
+
+/// The plane with three columns and the ideal 0.
+fn plane(alloc: Global) -> Option<Input> {
+    let columns = [IVec::of(&[1, 0]), IVec::of(&[1, 1]), IVec::of(&[0, 1])]
+        .to_vec(alloc)
+        .ok()?;
+    let grading = Grading::of(alloc, 2, columns).ok()?;
+    let generators = Vec::new(alloc);
+    Some(Input {
+        grading,
+        generators,
+    })
+}
+
+/// The answer for the plane.
+fn plane_answer(alloc: Global, mask: u16, members: &'static [Terms]) -> Option<Accepted> {
+    let input = plane(alloc)?;
+    let basis = polynomials(alloc, members).ok()?;
+    if 100 < basis.len() {
+        return None;
+    }
+    accept(alloc, &input, mask, &FaceCert::Free { basis }).ok()
 }
 
 /// Takes a type that threads may share and move.
@@ -159,5 +194,7 @@ fn certificates_are_judged(rt: HostRuntime) -> Result<(), Fail> {
         let answer = free_answer(rt.alloc(), case);
         assert!(rt; answer == Some(case.3), "free case {i}");
     }
+    assert!(rt; plane_answer(rt.alloc(), 5, ON_EDGE) == Some(Yes));
+    assert!(rt; plane_answer(rt.alloc(), 7, ON_EDGE) == Some(No(Clear)));
     Ok(())
 }

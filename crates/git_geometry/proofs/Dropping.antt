@@ -3,10 +3,11 @@ use Rattle.std.proofs.Common.{◌≡◌, ◌⊎◌, ◌∷◌, [], Bool, List, a
 use Rattle.std.proofs.Math.IntN.{◌-ℤ◌, negsuc, pos, ℤ}
 use Rattle.std.proofs.lemmas.Int.{ints}
 use Rattle.std.specs.Prelude.{if◌then◌else◌}
-use Rattle.git_defs.proofs.Members.{Member}
+use Rattle.git_lemmas.proofs.Members.{Member}
 use Rattle.git_defs.specs.Vectors.{Vector, dot}
 use Rattle.git_geometry.proofs.Identities.{head_same, tail_same}
 use Rattle.git_geometry.specs.Zeros.{AreUndominated, Dominates}
+use Rattle.git_lemmas.proofs.Options.{yes_or_no}
 
 abbrev is_zero : ℤ → Bool
 is_zero (pos zero) = true
@@ -16,10 +17,6 @@ is_zero (negsuc n) = false
 record IsTest (P : Type 0) (b : Bool) : Type 0 where
   sound : b ≡ true → P
   complete : P → b ≡ true
-
-yes_or_no : (b : Bool) → (b ≡ true) ⊎ (b ≡ false)
-yes_or_no true = inl refl
-yes_or_no false = inr refl
 
 apart : {X : Type 0} (b : Bool) → b ≡ true → b ≡ false → X
 apart b e f = absurd (cc (e, f))

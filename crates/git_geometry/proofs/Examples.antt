@@ -10,8 +10,9 @@ use Rattle.std.specs.Int.RustNames.{unsigned_abs}
 use Rattle.std.specs.Prelude.{◌≤ℤ◌, if◌then◌else◌}
 use borrow.Author.Differences.{up}
 use Rattle.git_defs.proofs.Closed.{closed_cone, cone_closed, cone_has, sign_of}
-use Rattle.git_defs.proofs.Integers.{diff, diff_add, diff_mul, diff_same, diff_sub}
-use Rattle.git_defs.proofs.Members.{Member, OfLength, rest_of_length}
+use Rattle.git_lemmas.proofs.Integers.{diff, diff_add, diff_mul, diff_same, diff_sub}
+use Rattle.git_lemmas.proofs.Members.{Member}
+use Rattle.git_defs.proofs.Lengths.{OfLength, rest_of_length}
 use Rattle.git_defs.specs.Cones.{AreFacets, AreRays, Cut, Dual, InCone}
 use Rattle.git_defs.specs.Vectors.{IsPrimitive, Precedes, Vector, combination, dot, scale, units}
 use Rattle.git_geometry.proofs.Canonical.{undominated_exact}
@@ -25,6 +26,7 @@ use Rattle.git_geometry.proofs.Units.{combination_units, units_of_length}
 use Rattle.git_geometry.specs.Generators.{Generates}
 use Rattle.git_geometry.specs.Instances.{InsideGeneratorChangesNoFacet, InsideGeneratorIsNoRay, QuadrantHasUnitFacets, SquareHasItsCornersAsRays, SquareHasItsSidesAsFacets, plane, plane_units, space, square, square_sides, units_and_inside}
 use Rattle.git_geometry.specs.Zeros.{AreUndominated}
+use Rattle.git_lemmas.proofs.Sorting.{two_ascend}
 
 -- ---- tests that compute
 abbrev for_each : (Vector → Bool) → List Vector → Bool
@@ -199,10 +201,6 @@ square_side_3 : (a b c : ℤ) → (pos 1 *ℤ a) +ℤ ((pos 0 *ℤ b) +ℤ ((pos
 square_side_3 a b c = diff_same (diff_add (diff_mul (diff (pos 1)) (diff a))
     (diff_add (diff_mul (diff (pos 0)) (diff b)) (diff_add (diff_mul (diff (pos 0)) (diff c)) (diff (pos 0))))) (diff a) (omega arith)
 
-two_pairs : (u v : Vector) → Precedes u v → AllPairs Precedes (u ∷ v ∷ [])
-two_pairs u v h = AllPairs-cons Precedes u (v ∷ []) (All-cons (Precedes u) v [] h (All-nil (Precedes u)))
-    (AllPairs-cons Precedes v [] (All-nil (Precedes v)) (λ i j d a b. absurd (omega arith)))
-
 -- ---- the quadrant
 quadrant_all : (x : Vector) → Cut 2 plane_units x → InCone 2 (units 2) x
 quadrant_all [] c = absurd (let e = c.entries in omega (arith, e))
@@ -221,7 +219,7 @@ quadrant_known : Known 2 (units 2) plane_units
 quadrant_known = record { lengths = refl; normal_lengths = refl; ones = refl; normal_ones = refl; sides = refl; all = quadrant_all }
 
 units_ordered : AllPairs Precedes plane_units
-units_ordered = two_pairs (plane 0 1) (plane 1 0) refl
+units_ordered = two_ascend Precedes (plane 0 1) (plane 1 0) refl
 
 pub quadrant_facets : QuadrantHasUnitFacets
 quadrant_facets = known_facets 2 (units 2) plane_units plane_units quadrant_known refl units_ordered
@@ -288,7 +286,7 @@ four_pairs a b c d ab ac ad bc bd cd =
     AllPairs-cons Precedes a (b ∷ c ∷ d ∷ []) (All-cons (Precedes a) b (c ∷ d ∷ []) ab
     (All-cons (Precedes a) c (d ∷ []) ac (All-cons (Precedes a) d [] ad (All-nil (Precedes a)))))
     (AllPairs-cons Precedes b (c ∷ d ∷ []) (All-cons (Precedes b) c (d ∷ []) bc (All-cons (Precedes b) d [] bd (All-nil (Precedes b))))
-    (two_pairs c d cd))
+    (two_ascend Precedes c d cd))
 
 pub square_rays : SquareHasItsCornersAsRays
 square_rays = known_rays 3 square square_sides square square_known refl

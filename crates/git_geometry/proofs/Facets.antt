@@ -5,7 +5,8 @@ use Rattle.std.proofs.lemmas.Int.{ints}
 use Rattle.std.specs.Prelude.{◌≤ℤ◌}
 use Rattle.git_defs.proofs.Closed.{IsClosed, cone_has}
 use Rattle.git_defs.proofs.Linear.{cone_beside, dot-comm}
-use Rattle.git_defs.proofs.Members.{Member, OfLength, contains_member, member_contains}
+use Rattle.git_lemmas.proofs.Members.{Member, contains_member, member_contains}
+use Rattle.git_defs.proofs.Lengths.{OfLength}
 use Rattle.git_defs.proofs.Sums.{scale-one, scale-zero}
 use Rattle.git_defs.specs.Cones.{AreFacets, AreRays, Cut, Dual, InCone, IsEdge, IsExtreme, IsPointed, OnRay, SameSet}
 use Rattle.git_defs.specs.Vectors.{HasRank, IsPrimitive, Precedes, Vector, scale, zero_vector}

@@ -2,7 +2,7 @@
 use Rattle.std.proofs.Common.{◌≡◌, ◌∙◌, ◌∷◌, [], List, ap, arith, length, map, refl, sym, ℕ}
 use Rattle.std.proofs.Math.IntN.{◌+ℤ◌, ◌*ℤ◌, *ℤ-zero, neg_ℤ, negsuc, pos, ℤ}
 use Rattle.std.proofs.lemmas.Int.{ints}
-use Rattle.git_defs.proofs.Integers.{diff, diff_add, diff_mul, diff_neg, diff_same, mul_comm}
+use Rattle.git_lemmas.proofs.Integers.{diff, diff_add, diff_mul, diff_neg, diff_same, mul_comm}
 use Rattle.git_defs.proofs.Linear.{dot-scale}
 use Rattle.git_defs.proofs.Sums.{scale-one, scale-scale}
 use Rattle.git_defs.specs.Vectors.{Vector, combination, dot, plus, scale, zero_vector}

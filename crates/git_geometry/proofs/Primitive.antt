@@ -7,12 +7,13 @@ use Rattle.std.proofs.lemmas.Nat.Gcd.{IsGcd-from_mod, IsGcd-from_zero, dvd-zero,
 use Rattle.std.specs.Int.{◌∣◌, IsGcd}
 use Rattle.std.specs.Int.RustNames.{int_div, int_rem, unsigned_abs}
 use borrow.Author.Differences.{down, product_is, up}
-use Rattle.git_defs.proofs.Integers.{mul_comm}
-use Rattle.git_defs.proofs.Members.{Member}
+use Rattle.git_lemmas.proofs.Integers.{mul_comm}
+use Rattle.git_lemmas.proofs.Members.{Member}
 use Rattle.git_defs.proofs.Sums.{scale-scale, scale-zero, scale_none}
 use Rattle.git_defs.specs.Vectors.{IsPrimitive, Vector, scale, zero_vector}
 use Rattle.git_geometry.proofs.Identities.{head_same, tail_same}
 use Rattle.git_geometry.specs.Generators.{PrimitivePart}
+use Rattle.git_lemmas.proofs.Divisions.{divided}
 
 -- ---- a positive factor may be left out
 no_cons : {X : Type 0} (x : ℤ) (u : Vector) → [] ≡ x ∷ u → X
@@ -68,14 +69,6 @@ content (x ∷ v) =
       ];
       greatest = λ d each. g.is.2 d (each x (inl refl)) (rest.greatest d (λ z m. each z (inr m)));
     }
-
-no_rest : (a : ℤ) (n : ℕ) → n ∣ unsigned_abs a → int_rem a (pos n) ≡ pos 0
-no_rest (pos m) n h = ap pos (mod-eq-zero_of_dvd n h)
-no_rest (negsuc m) n h = ap (λ (k : ℕ). neg_ℤ (pos k)) (mod-eq-zero_of_dvd n h)
-
-divided : (a : ℤ) (n : ℕ) → n ∣ unsigned_abs a → a ≡ pos n *ℤ int_div a (pos n)
-divided a n h = sym (quot-rem a (pos n)) ∙ ap (λ (z : ℤ). int_div a (pos n) *ℤ pos n +ℤ z) (no_rest a n h) ∙ +ℤ_idr (int_div a (pos n) *ℤ pos n)
-    ∙ mul_comm (int_div a (pos n)) (pos n)
 
 divided_each : (n : ℕ) (v : Vector) → ((z : ℤ) → Member z v → n ∣ unsigned_abs z) → v ≡ scale (pos n) (map (λ (z : ℤ). int_div z (pos n)) v)
 divided_each n [] each = refl

@@ -4,18 +4,13 @@ use Rattle.std.proofs.Math.IntN.{◌*ℤ◌, negsuc, pos, ℤ}
 use Rattle.std.proofs.lemmas.Int.{ints}
 use Rattle.std.specs.Prelude.{◌<ℤ◌, ◌≤ℤ◌}
 use borrow.Author.Differences.{product_is}
-use Rattle.git_defs.proofs.Integers.{add_nonneg, mul_nonneg}
+use Rattle.git_lemmas.proofs.Integers.{add_nonneg, mul_nonneg, square_zero}
 use Rattle.git_defs.proofs.Linear.{dot-zero}
 use Rattle.git_defs.specs.Vectors.{Vector, dot, zero_vector}
 
 square : (a : ℤ) → pos 0 ≤ℤ (a *ℤ a)
 square (pos n) = mul_nonneg (pos n) (pos n) (omega (arith, ints)) (omega (arith, ints))
 square (negsuc n) = omega (arith, ints, product_is (negsuc n) (negsuc n))
-
-square_zero : (a : ℤ) → (a ≡ pos 0) ⊎ (pos 0 <ℤ (a *ℤ a))
-square_zero (pos zero) = inl refl
-square_zero (pos (suc n)) = inr (omega (arith, ints, product_is (pos (suc n)) (pos (suc n))))
-square_zero (negsuc n) = inr (omega (arith, ints, product_is (negsuc n) (negsuc n)))
 
 dot_square : (u : Vector) → pos 0 ≤ℤ dot u u
 dot_square [] = omega (arith, ints)

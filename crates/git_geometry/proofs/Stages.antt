@@ -5,7 +5,8 @@ use Rattle.std.proofs.lemmas.Int.{ints}
 use Rattle.std.specs.Prelude.{◌<ℤ◌, ◌≤ℤ◌}
 use borrow.Author.Differences.{up}
 use Rattle.git_defs.proofs.Closed.{IsClosed, cone_closed, cone_has}
-use Rattle.git_defs.proofs.Members.{Member, OfLength}
+use Rattle.git_lemmas.proofs.Members.{Member}
+use Rattle.git_defs.proofs.Lengths.{OfLength}
 use Rattle.git_defs.proofs.Sums.{scale-one, scale-scale, scale-zero}
 use Rattle.git_defs.specs.Cones.{Cut, InCone, IsEdge, IsExtreme, IsPointed, OnRay, SameSet}
 use Rattle.git_defs.specs.Vectors.{Vector, dot, scale}

@@ -5,9 +5,10 @@ use Rattle.std.proofs.Math.IntN.{ℤ, pos, negsuc, ◌+ℤ◌, ◌*ℤ◌}
 use Rattle.std.proofs.lemmas.Int.{ints}
 use Rattle.git_defs.specs.Vectors.{Vector, zero_vector, scale, plus, dot, combination, HasZeroSum}
 use Rattle.git_defs.specs.Cones.{InCone}
-use Rattle.git_defs.proofs.Integers.{diff, diff_add, diff_mul, diff_same, mul_nonneg, mul_pos}
-use Rattle.git_defs.proofs.Members.{Member, OfLength, first_of_length, rest_of_length}
-use Rattle.git_defs.proofs.Linear.{dot-plus, dot-scale, dot-zero, length-scale, length-combination, combination_beside}
+use Rattle.git_lemmas.proofs.Integers.{diff, diff_add, diff_mul, diff_same, mul_nonneg, mul_pos}
+use Rattle.git_lemmas.proofs.Members.{Member}
+use Rattle.git_defs.proofs.Lengths.{OfLength, first_of_length, rest_of_length}
+use Rattle.git_defs.proofs.Linear.{dot-plus, dot-scale, dot-zero, length-scale, length-zero, length-combination, combination_beside}
 use Rattle.git_defs.proofs.Sums.{scale-plus, scale-zero, scale_none, plus-zero}
 
 -- one vector more, with the number 0
@@ -16,11 +17,8 @@ zero_sum_later k v vs have h = record {
   numbers = 0 ∷ h.numbers;
   one_each = ap suc h.one_each;
   some = (suc h.some.0, (let p = h.some.1 in omega arith), h.some.2);
-  zero_sum = (λ i. plus (scale_none v k (first_of_length k v vs have) i) (h.zero_sum i)) ∙ plus-zero (zero_vector k) k (zero_length k);
-} where
-  zero_length : (k : ℕ) → length (zero_vector k) ≡ k
-  zero_length zero = refl
-  zero_length (suc k) = ap suc (zero_length k)
+  zero_sum = (λ i. plus (scale_none v k (first_of_length k v vs have) i) (h.zero_sum i)) ∙ plus-zero (zero_vector k) k (length-zero k);
+}
 
 opposite : (k : ℕ) (v : Vector) → length v ≡ k → plus v (scale (negsuc 0) v) ≡ zero_vector k
 opposite zero [] e = refl

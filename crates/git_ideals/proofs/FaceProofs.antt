@@ -1,6 +1,6 @@
 -- What shows that a face is an a-face, or none.
 use Rattle.std.proofs.Common.{zero, suc, ℕ, ◌+◌, ◌*◌, ◌^◌, ◌<◌, ◌≤◌, ◌≡◌, refl, List, [], ◌∷◌, map, length, get_or, Bool, true, false, Some, sym, ◌∙◌, ap, subst, arith, inl, inr, eq-eqb}
-use Rattle.std.specs.Prelude.{◌/◌, ◌%◌, ◌==◌, ◌||◌, ◌&&◌, ◌↔◌, All, IsTrue, if◌then◌else◌}
+use Rattle.std.specs.Prelude.{◌==◌, ◌||◌, ◌&&◌, ◌↔◌, All, IsTrue, if◌then◌else◌}
 use Rattle.std.specs.List.{list_all, range_with_len, sum_by}
 use Rattle.std.proofs.lemmas.Bool.{cases_eq, ne_eqb}
 use Rattle.std.proofs.lemmas.List.Sums.{get_or-le-sum_by}
@@ -21,10 +21,7 @@ use Rattle.git_ideals.proofs.Reductions.{unit_lead}
 use Rattle.git_ideals.proofs.Conversions.{terms_of, to_sums, from_sums, monomial_alike, one_alike, clearing_alike}
 use Rattle.git_ideals.proofs.Buchberger.{sums_criterion}
 use Rattle.git_ideals.proofs.Divisions.{within as within_list, zero_in}
-
--- whether a variable is in the face
-abbrev has_bit : ℕ → ℕ → Bool
-has_bit mask i = (mask / 2 ^ i) % 2 == 1
+use Rattle.git_bits.specs.Bits.{has_bit}
 
 all_at : (p : ℕ → Bool) (a n i : ℕ) → list_all p (range_with_len a n) ≡ true → a ≤ i → i < a + n → p i ≡ true
 all_at p a zero i e low high = absurd (omega arith)
@@ -46,7 +43,7 @@ all_from : (p : ℕ → Bool) (a n : ℕ) → ((i : ℕ) → a ≤ i → i < a +
 all_from p a zero each = refl
 all_from p a (suc n) each = (λ i. each a (omega arith) (omega arith) i && list_all p (range_with_len (a + 1) n)) ∙ all_from p (a + 1) n (λ k low high. each k (omega arith) (omega arith))
 
-exponent-face : (mask i : ℕ) → i < 17 → exponent (face_monomial mask) i ≡ (if has_bit mask i then 1 else 0)
+pub exponent-face : (mask i : ℕ) → i < 17 → exponent (face_monomial mask) i ≡ (if has_bit mask i then 1 else 0)
 unfolding face_monomial
 exponent-face mask i h = exponent-by (λ k. if has_bit mask k then 1 else 0) i h
 

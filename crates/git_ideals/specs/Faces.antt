@@ -1,14 +1,15 @@
 -- A-faces, and what shows that a face is one or none.
-use Rattle.std.specs.Prelude.{ℕ, ◌≡◌, ◌≢◌, ◌/◌, ◌%◌, ◌^◌, ◌==◌, if◌then◌else◌, List, map, Some, All, IsTrue}
+use Rattle.std.specs.Prelude.{ℕ, ◌≡◌, ◌≢◌, if◌then◌else◌, List, map, Some, All, IsTrue}
 use Rattle.git_algebra.specs.Exponents.{Exponents, exponents_by, one, power, in_face}
 use Rattle.git_algebra.specs.Polynomials.{Polynomial}
 use Rattle.git_algebra.specs.Operations.{lead_of, restricted, IsInFace}
 use Rattle.git_ideals.specs.Ideals.{combination, monomial, clearing}
 use Rattle.git_ideals.specs.Division.{DividesToZero, AreNonzero, PairsDivide}
+use Rattle.git_bits.specs.Bits.{has_bit}
 
 -- the product of the face's variables
 unfoldable pub face_monomial : ℕ → Exponents
-face_monomial mask = exponents_by (λ i. if (mask / 2 ^ i) % 2 == 1 then 1 else 0)
+face_monomial mask = exponents_by (λ i. if has_bit mask i then 1 else 0)
 
 -- no monomial in the face's variables is a sum of products of polynomials in them with the restricted generators
 abbrev pub IsAFace : List Polynomial → ℕ → Type 0

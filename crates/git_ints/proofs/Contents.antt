@@ -13,6 +13,7 @@ use Rattle.git_defs.specs.Vectors.{Vector, scale, IsPrimitive}
 use Rattle.git_defs.proofs.Sums.{scale-scale, scale-one}
 use Rattle.git_ints.specs.Padded.{AreWithin}
 use Rattle.git_ints.specs.Content.{IsContent, IsPrimitivePart}
+use Rattle.git_lemmas.proofs.Divisions.{divided}
 
 pub content_more : (v : List ℤ) (i g h : ℕ) → i < length v → IsContent (take i v) g → IsGcd g (unsigned_abs (get_or v i (pos 0))) h → IsContent (take (i + 1) v) h
 content_more v i g h fits before both =
@@ -26,13 +27,6 @@ content_more v i g h fits before both =
           (subst (λ (x : ℤ). d ∣ unsigned_abs x) (get_or-take (i + 1) v i (pos 0) (omega arith)) (each i (pos 0) (omega arith)));
     }
 
-no_rest : (a : ℤ) (n : ℕ) → n ∣ unsigned_abs a → int_rem a (pos n) ≡ pos 0
-no_rest (pos m) n h = ap pos (mod-eq-zero_of_dvd n h)
-no_rest (negsuc m) n h = ap (λ (k : ℕ). neg_ℤ (pos k)) (mod-eq-zero_of_dvd n h)
-
-pub exact : (a : ℤ) (n : ℕ) → n ∣ unsigned_abs a → a ≡ pos n *ℤ int_div a (pos n)
-exact a n h = sym (quot-rem a (pos n)) ∙ ap (λ (z : ℤ). int_div a (pos n) *ℤ pos n +ℤ z) (no_rest a n h) ∙ +ℤ_idr (int_div a (pos n) *ℤ pos n) ∙ *ℤ_comm (int_div a (pos n)) (pos n)
-
 -- what the machine's quotient gives
 pub machine_quotient : (a : ℤ) (n : ℕ) → SFits w128 a → 0 < n → n ≤ 2 ^ 126 → n ∣ unsigned_abs a
     → a ≡ pos n *ℤ to_z w128 (of_z w128 (int_div (to_z w128 (of_z w128 a)) (to_z w128 n)))
@@ -42,7 +36,7 @@ machine_quotient a n fits some small divides =
     let n_fits : SFits w128 (pos n) = fits_signed_from_abs w128 (pos n) n_small in
     let n_is : to_z w128 n ≡ pos n = to_z_pos w128 n n_small in
     let some_z : pos 0 <ℤ pos n = omega (arith, ints) in
-    exact a n divides ∙ ap (λ (z : ℤ). pos n *ℤ z) (sym (quot_is w128 a (pos n) fits n_fits (quot_fits w128 a (pos n) fits some_z)))
+    divided a n divides ∙ ap (λ (z : ℤ). pos n *ℤ z) (sym (quot_is w128 a (pos n) fits n_fits (quot_fits w128 a (pos n) fits some_z)))
 
 -- ---- a content that is 0, and the size of one that isn't
 all_zero : (v : List ℤ) → All (λ z. 0 ∣ unsigned_abs z) v → v ≡ replicate (length v) (pos 0)

@@ -3,8 +3,3 @@ pub mod Dots
 pub mod Padding
 pub mod Contents
 pub mod Built
-pub mod Turns
-pub mod Walks
-pub mod Tables
-pub mod OneSided
-pub mod Judged

@@ -6,12 +6,7 @@ use Rattle.std.proofs.Math.Nat.{mul-le-mul}
 use Rattle.std.specs.Int.RustNames.{unsigned_abs}
 use Rattle.std.proofs.lemmas.Int.{ints, to_z-of_z, unsigned_abs-mul, fits_signed_from_abs}
 use Rattle.git_ints.specs.Padded.{AreWithin}
-
-pub abs_mul_le : (a b : ℤ) (m n : ℕ) → unsigned_abs a ≤ m → unsigned_abs b ≤ n → unsigned_abs (a *ℤ b) ≤ m * n
-abs_mul_le a b m n p q = omega (arith, unsigned_abs-mul a b, mul-le-mul p q)
-
-pub abs_add_le : (a b : ℤ) (m n : ℕ) → unsigned_abs a ≤ m → unsigned_abs b ≤ n → unsigned_abs (a +ℤ b) ≤ m + n
-abs_add_le a b m n p q = omega (arith, ints)
+use Rattle.git_lemmas.proofs.Integers.{abs_add, abs_mul}
 
 -- a number of at most 2^126 is what the machine keeps of it
 pub fits : (a : ℤ) → unsigned_abs a ≤ 2 ^ 126 → SFits w128 a
@@ -52,22 +47,5 @@ kept_term u v i sizes p q = record {
 
 pub blend_within : (a x b y : ℤ) → unsigned_abs a ≤ 2 ^ 83 → unsigned_abs x ≤ 2 ^ 40 → unsigned_abs b ≤ 2 ^ 83 → unsigned_abs y ≤ 2 ^ 40 → unsigned_abs (a *ℤ x +ℤ b *ℤ y) ≤ 2 ^ 126
 blend_within a x b y p q r s =
-    let h = abs_add_le (a *ℤ x) (b *ℤ y) (2 ^ 83 * 2 ^ 40) (2 ^ 83 * 2 ^ 40) (abs_mul_le a x (2 ^ 83) (2 ^ 40) p q) (abs_mul_le b y (2 ^ 83) (2 ^ 40) r s) in
+    let h = abs_add (a *ℤ x) (b *ℤ y) (2 ^ 83 * 2 ^ 40) (2 ^ 83 * 2 ^ 40) (abs_mul a x (2 ^ 83) (2 ^ 40) p q) (abs_mul b y (2 ^ 83) (2 ^ 40) r s) in
     let e : 2 ^ 83 * 2 ^ 40 + 2 ^ 83 * 2 ^ 40 ≤ 2 ^ 126 = lit≤ tt in omega (arith, h, e)
-
--- a term of an expansion: a sign, an entry of at most 1000 and a minor of at most 2^84
-pub term_size : (s e m p q : ℤ) → unsigned_abs s ≤ 1 → unsigned_abs e ≤ 1000 → unsigned_abs m ≤ 2 ^ 84 → unsigned_abs p ≤ unsigned_abs e * unsigned_abs m
-    → unsigned_abs q ≤ unsigned_abs s * unsigned_abs (to_z w128 (of_z w128 p)) → unsigned_abs q ≤ 2 ^ 94
-term_size s e m p q hs he hm hp hq =
-    let a : unsigned_abs p ≤ 1000 * 2 ^ 84 = (let f = mul-le-mul he hm in omega (arith, hp, f)) in
-    let b = kept_within p (1000 * 2 ^ 84) a (lit≤ tt) in
-    let f = mul-le-mul hs b in let g : 1 * (1000 * 2 ^ 84) ≤ 2 ^ 94 = lit≤ tt in omega (arith, hq, f, g)
-
-pub total_size : (t q s : ℤ) → unsigned_abs t ≤ 2 ^ 120 → unsigned_abs q ≤ 2 ^ 94 → s ≡ to_z w128 (of_z w128 t) +ℤ to_z w128 (of_z w128 q)
-    → unsigned_abs (to_z w128 (of_z w128 s)) ≤ unsigned_abs t + 2 ^ 94
-total_size t q s ht hq e =
-    let a : 2 ^ 120 ≤ 2 ^ 126 = lit≤ tt in let b : 2 ^ 94 ≤ 2 ^ 126 = lit≤ tt in let c : 2 ^ 120 + 2 ^ 94 ≤ 2 ^ 126 = lit≤ tt in
-    let h : unsigned_abs s ≤ unsigned_abs t + 2 ^ 94 = subst (λ (z : ℤ). unsigned_abs z ≤ unsigned_abs t + 2 ^ 94)
-    (sym (e ∙ (λ i. kept t (omega (arith, ht, a)) i +ℤ kept q (omega (arith, hq, b)) i)))
-    (abs_add_le t q (unsigned_abs t) (2 ^ 94) (omega arith) hq) in
-    kept_within s (unsigned_abs t + 2 ^ 94) h (omega (arith, ht, c))

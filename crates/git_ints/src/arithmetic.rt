@@ -1,9 +1,9 @@
 //! Sums and products of integers that fit 128 bits.
-ghost use Rattle.std.specs.Prelude.{◌≡◌, ◌≤◌, ◌^◌, ◌*◌, ℤ, ◌*ℤ◌, ◌+ℤ◌, ◌-ℤ◌};
+ghost use Rattle.std.specs.Prelude.{◌≡◌, ◌≤◌, ◌^◌, ◌*◌, ℤ, ◌*ℤ◌, ◌+ℤ◌};
 ghost use Rattle.std.specs.Int.RustNames.{unsigned_abs};
 
 /// The product of two integers, of at most 2^123.
-pub(crate) fn product(a: i128, b: i128) -> i128
+pub fn product(a: i128, b: i128) -> i128
     requires { unsigned_abs a * unsigned_abs b ≤ 2 ^ 123 }
     ensures value { result ≡ a *ℤ b }
     ensures within { unsigned_abs result ≤ unsigned_abs a * unsigned_abs b }
@@ -12,7 +12,7 @@ pub(crate) fn product(a: i128, b: i128) -> i128
 }
 
 /// The sum of two integers of at most 2^125.
-pub(crate) fn sum(a: i128, b: i128) -> i128
+pub fn sum(a: i128, b: i128) -> i128
     requires first { unsigned_abs a ≤ 2 ^ 125 }
     requires second { unsigned_abs b ≤ 2 ^ 125 }
     ensures { result ≡ a +ℤ b }
@@ -29,16 +29,4 @@ pub(crate) fn blend(a: i128, x: i128, b: i128, y: i128) -> i128
     ensures { result ≡ a *ℤ x +ℤ b *ℤ y }
 {
     sum(product(a, x), product(b, y))
-}
-
-/// `a d - b c`.
-pub(crate) fn determinant(a: i128, b: i128, c: i128, d: i128) -> i128
-    requires first { unsigned_abs a ≤ 2 ^ 40 }
-    requires second { unsigned_abs b ≤ 2 ^ 40 }
-    requires third { unsigned_abs c ≤ 2 ^ 40 }
-    requires fourth { unsigned_abs d ≤ 2 ^ 40 }
-    ensures { result ≡ a *ℤ d -ℤ b *ℤ c }
-{
-    let negative = 0 - b;
-    blend(a, d, negative, c)
 }

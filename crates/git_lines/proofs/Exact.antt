@@ -11,6 +11,7 @@ use Rattle.git_lines.specs.Tokens.{Token, RestOfLine, taken_of, next_token, text
 use Rattle.git_lines.specs.Numbers.{integer}
 use Rattle.git_lines.specs.Reading.{◌>>=◌, lift, times, line_at, next_line, ended_line_at, next_ended_line, line_by, word_in, word_token, integer_within, integer_in, integer_token, nothing_in, no_token}
 use Rattle.git_lines.specs.Grammar.{Together, IsInteger}
+use Rattle.git_lemmas.proofs.Options.{some_is}
 
 -- ---- a value out of steps that follow one another
 
@@ -72,9 +73,6 @@ times_again step items P steps (t ∷ front) ts (a ∷ made) s e h =
 abbrev pub with_tokens : RestOfLine → List Token → RestOfLine
 with_tokens rest ts = record { line = rest.line; past = rest.past; tokens = ts }
 
-some_is : {A : Type 0} (x y : A) → Some x ≡ Some y → x ≡ y
-some_is x y e = cc
-
 token_takes : (rest after : RestOfLine) (t : Token) (ts : List Token) → taken_of rest ts ≡ Some (t, after) → ts ≡ t ∷ after.tokens
 token_takes rest after t [] e = absurd (cc e)
 token_takes rest after t (u ∷ us) e =
@@ -108,7 +106,7 @@ none_found : (rest : RestOfLine) (o : Option (Token × RestOfLine)) → next_tok
 none_found rest None o e = o
 none_found rest (Some p) o e = absurd (cc e)
 
-empty_taken : (rest : RestOfLine) (ts : List Token) → taken_of rest ts ≡ None → ts ≡ []
+pub empty_taken : (rest : RestOfLine) (ts : List Token) → taken_of rest ts ≡ None → ts ≡ []
 empty_taken rest [] e = refl
 empty_taken rest (t ∷ ts) e = absurd (cc e)
 

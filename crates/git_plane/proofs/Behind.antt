@@ -5,10 +5,11 @@ use Rattle.std.proofs.lemmas.Int.{ints}
 use Rattle.std.specs.Prelude.{AllPairs, Contains, Some, slice_get}
 use Rattle.git_defs.proofs.Closed.{cone_closed, cone_has}
 use Rattle.git_defs.proofs.Linear.{dot-comm}
-use Rattle.git_defs.proofs.Members.{Member, contains_member, member_contains}
+use Rattle.git_lemmas.proofs.Members.{Member, contains_member, member_contains}
 use Rattle.git_defs.specs.Cones.{Dual, InCone, IsExtreme, SameSet}
 use Rattle.git_defs.specs.Faces.{cone_at}
-use Rattle.git_defs.specs.Listings.{Chamber, IsListed, IsNeighbour, RaysPrecede, chamber_cone}
+use Rattle.git_listing.specs.Listings.{Chamber, RaysPrecede}
+use Rattle.git_plane.specs.RankTwo.{IsListed, IsNeighbour, chamber_cone}
 use Rattle.git_defs.specs.Vectors.{IsPrimitive, Vector, dot}
 use Rattle.git_geometry.proofs.Independence.{chosen_member, chosen_of_length, no_common_zero}
 use Rattle.git_geometry.proofs.Primitive.{primitive_nonzero}

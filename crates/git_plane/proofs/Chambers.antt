@@ -3,12 +3,12 @@ use Rattle.std.proofs.Common.{◌≡◌, ◌<◌, ◌∷◌, [], List, arith, �
 use Rattle.std.proofs.Math.IntN.{pos}
 use Rattle.std.proofs.lemmas.Int.{ints}
 use Rattle.std.specs.Prelude.{◌<ℤ◌, ◌≤ℤ◌}
-use Rattle.git_defs.proofs.Members.{Member, contains_member, member_contains}
+use Rattle.git_lemmas.proofs.Members.{Member, contains_member, member_contains}
 use Rattle.git_defs.specs.Chambers.{InChamberOf}
 use Rattle.git_defs.specs.Cones.{InCone, SameSet}
 use Rattle.git_defs.specs.Vectors.{Vector}
-use Rattle.git_ints.proofs.Turns.{turn-swap}
-use Rattle.git_ints.specs.Plane.{turn}
+use Rattle.git_plane.proofs.TurnIdentities.{turn-swap}
+use Rattle.git_plane.specs.Turns.{turn}
 use Rattle.git_plane.proofs.Directions.{AreAhead, neighbours_open}
 use Rattle.git_plane.proofs.PairCones.{Inside, Opens, inside_of_pair, pair_of_inside, pair_within, two_have}
 use Rattle.git_plane.proofs.Turns.{IsAhead, Turning, ahead_between, left, level, right, turn_into, turn_on, turning}

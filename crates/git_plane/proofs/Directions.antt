@@ -4,18 +4,18 @@ use Rattle.std.proofs.Math.IntN.{◌*ℤ◌, *ℤ-zero, negsuc, pos, ℤ}
 use Rattle.std.proofs.lemmas.Int.{ints}
 use Rattle.std.specs.Prelude.{◌<ℤ◌, ◌≤ℤ◌, AllPairs}
 use Rattle.git_defs.proofs.Closed.{IsClosed, closed_cone, positive_or_zero}
-use Rattle.git_defs.proofs.Integers.{mul_pos, pos_of_mul}
+use Rattle.git_lemmas.proofs.Integers.{mul_pos, pos_of_mul}
 use Rattle.git_defs.proofs.Linear.{dot-plus, dot-scale, dot-zero, length-plus, length-scale, length-zero}
-use Rattle.git_defs.proofs.Members.{Member, contains_member, member_contains}
+use Rattle.git_lemmas.proofs.Members.{Member, contains_member, member_contains}
 use Rattle.git_defs.proofs.Sums.{plus-zero, scale-zero, scale_none}
 use Rattle.git_defs.specs.Chambers.{IsGeneric}
 use Rattle.git_defs.specs.Vectors.{IsPrimitive, Vector, dot, plus, scale, zero_vector}
 use Rattle.git_geometry.proofs.Primitive.{primitive_part, vanish}
-use Rattle.git_ints.proofs.Turns.{turn-swap}
+use Rattle.git_plane.proofs.TurnIdentities.{turn-swap}
 use Rattle.git_ints.specs.Content.{IsPrimitivePart}
-use Rattle.git_ints.specs.Plane.{turn}
+use Rattle.git_plane.specs.Turns.{turn}
 use Rattle.git_plane.proofs.PairCones.{Inside, Opens}
-use Rattle.git_plane.proofs.Sorting.{ascends_of_pairs, pairs_of_ascends}
+use Rattle.git_lemmas.proofs.Sorting.{ascends_of_pairs, pairs_of_ascends}
 use Rattle.git_plane.proofs.Turns.{IsAhead, Turning, left, level, level_ray, level_same, right, same_or_not, turning, turn-scale, scale-turn}
 use Rattle.git_plane.specs.PlaneListings.{AreDirections, AreNeighbours}
 

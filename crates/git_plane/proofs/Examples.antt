@@ -5,18 +5,19 @@ use Rattle.std.proofs.Math.Nat.{eq-one_of_dvd-one}
 use Rattle.std.proofs.lemmas.Int.{ints}
 use Rattle.std.specs.Int.RustNames.{unsigned_abs}
 use Rattle.std.specs.Prelude.{◌<ℤ◌, AllPairs, Contains, Some, slice_get}
-use Rattle.git_defs.proofs.Members.{Member, OfLength, contains_member, member_all, member_contains, of_length_all}
-use Rattle.git_defs.specs.Listings.{Chamber, RaysPrecede, boundary, inner}
+use Rattle.git_lemmas.proofs.Members.{Member, contains_member, member_all, member_contains}
+use Rattle.git_defs.proofs.Lengths.{OfLength, of_length_all}
+use Rattle.git_listing.specs.Listings.{Chamber, RaysPrecede, boundary, inner}
 use Rattle.git_defs.specs.Vectors.{IsPrimitive, Precedes, Vector, dot, scale}
 use Rattle.git_geometry.proofs.Primitive.{scale_divides}
 use Rattle.git_plane.proofs.PlaneRanks.{turns_rank}
 use Rattle.git_geometry.proofs.ZeroSums.{positive_no_zero_sum}
 use Rattle.git_ints.specs.Content.{IsPrimitivePart}
-use Rattle.git_ints.specs.Gradings.{IsGrading}
+use Rattle.git_grading.specs.Gradings.{IsGrading}
 use Rattle.git_ints.specs.Padded.{AreWithin}
-use Rattle.git_ints.specs.Plane.{turn}
-use Rattle.git_plane.proofs.Places.{some_same}
-use Rattle.git_plane.proofs.Sorting.{pairs_of_ascends}
+use Rattle.git_plane.specs.Turns.{turn}
+use Rattle.git_lemmas.proofs.Options.{some_is}
+use Rattle.git_lemmas.proofs.Sorting.{pairs_of_ascends, two_ascend}
 use Rattle.git_plane.proofs.Theorem.{plane_listing}
 use Rattle.git_plane.proofs.Turns.{apart_left}
 use Rattle.git_plane.specs.Instances.{FourColumnsHaveTwoChambers, east, four_columns, left_chamber, north, north_east, right_chamber, two_chambers}
@@ -164,12 +165,6 @@ pair_found low high near = each_direction (λ (l : Vector). AreNeighbours direct
       (λ n. apart north north n (λ t. omega (arith, ints, t))) high high_in
 
 -- ---- the two chambers
-two_ascend : (u v : Vector) → Precedes u v → AllPairs Precedes (u ∷ v ∷ [])
-two_ascend u v p = pairs_of_ascends Precedes (u ∷ v ∷ []) (by, ((λ x m. absurd m), tt)) where
-  by : (x : Vector) → Member x (v ∷ []) → Precedes u x
-  by x (inl e) = subst (Precedes u) e p
-  by x (inr o) = absurd o
-
 no_east : Member east (north ∷ north_east ∷ []) → ⊥
 no_east (inl e) = apart_left east north refl (omega (arith, ints)) (sym e)
 no_east (inr (inl e)) = apart_left east north_east refl (omega (arith, ints)) (sym e)
@@ -185,18 +180,18 @@ none_at c i e = cc e
 
 behind_north : (j : ℕ) → HasRayToo chambers 0 north j → ⊥
 behind_north zero h = h.distinct refl
-behind_north (suc zero) h = no_north (contains_member north right_chamber.rays (subst (λ (c : Chamber). Contains c.rays north) (sym (some_same right_chamber h.other h.listed)) h.shared))
+behind_north (suc zero) h = no_north (contains_member north right_chamber.rays (subst (λ (c : Chamber). Contains c.rays north) (sym (some_is right_chamber h.other h.listed)) h.shared))
 behind_north (suc (suc j)) h = none_at h.other j h.listed
 
 behind_east : (j : ℕ) → HasRayToo chambers 1 east j → ⊥
-behind_east zero h = no_east (contains_member east left_chamber.rays (subst (λ (c : Chamber). Contains c.rays east) (sym (some_same left_chamber h.other h.listed)) h.shared))
+behind_east zero h = no_east (contains_member east left_chamber.rays (subst (λ (c : Chamber). Contains c.rays east) (sym (some_is left_chamber h.other h.listed)) h.shared))
 behind_east (suc zero) h = h.distinct refl
 behind_east (suc (suc j)) h = none_at h.other j h.listed
 
 left_pair : IsPairChamber chambers 0 north_east north left_chamber
 left_pair = record {
   rays = inr refl;
-  rays_ordered = two_ascend north north_east refl;
+  rays_ordered = two_ascend Precedes north north_east refl;
   weight = refl;
   low_facet = record { normal = negsuc 0 ∷ pos 1 ∷ []; side = inner 2 };
   high_facet = record { normal = east; side = boundary };
@@ -206,13 +201,13 @@ left_pair = record {
   };
   at_high = record { normal_is = refl; side = behind_north };
   facets = inl refl;
-  facets_ordered = two_ascend (negsuc 0 ∷ pos 1 ∷ []) east refl;
+  facets_ordered = two_ascend Precedes (negsuc 0 ∷ pos 1 ∷ []) east refl;
 }
 
 right_pair : IsPairChamber chambers 1 east north_east right_chamber
 right_pair = record {
   rays = inl refl;
-  rays_ordered = two_ascend east north_east refl;
+  rays_ordered = two_ascend Precedes east north_east refl;
   weight = refl;
   low_facet = record { normal = north; side = boundary };
   high_facet = record { normal = pos 1 ∷ negsuc 0 ∷ []; side = inner 1 };
@@ -222,15 +217,15 @@ right_pair = record {
     side = (0, refl, record { other = left_chamber; listed = refl; distinct = λ e. omega (arith, e); shared = member_contains north_east left_chamber.rays (inr (inl refl)) });
   };
   facets = inl refl;
-  facets_ordered = two_ascend north (pos 1 ∷ negsuc 0 ∷ []) refl;
+  facets_ordered = two_ascend Precedes north (pos 1 ∷ negsuc 0 ∷ []) refl;
 }
 
 abbrev HasPlace : ℕ → Chamber → Type 0
 HasPlace i c = (low : Vector) × (high : Vector) × AreNeighbours directions low high × IsPairChamber chambers i low high c
 
 placed : (i : ℕ) (c : Chamber) → slice_get chambers i ≡ Some c → HasPlace i c
-placed zero c e = subst (HasPlace 0) (some_same left_chamber c e) (north_east, north, near_left, left_pair)
-placed (suc zero) c e = subst (HasPlace 1) (some_same right_chamber c e) (east, north_east, near_right, right_pair)
+placed zero c e = subst (HasPlace 0) (some_is left_chamber c e) (north_east, north, near_left, left_pair)
+placed (suc zero) c e = subst (HasPlace 1) (some_is right_chamber c e) (east, north_east, near_right, right_pair)
 placed (suc (suc i)) c e = absurd (none_at c i e)
 
 chambers_ordered : AllPairs RaysPrecede chambers

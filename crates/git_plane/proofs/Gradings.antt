@@ -2,11 +2,12 @@
 use Rattle.std.proofs.Common.{◌≡◌, ◌⊎◌, ◌∙◌, List, arith, inl, inr, length, sym}
 use Rattle.std.proofs.lemmas.Int.{ints}
 use Rattle.git_defs.proofs.Linear.{dot-comm, dot-plus, length-plus}
-use Rattle.git_defs.proofs.Members.{Member, OfLength, all_member, all_of_length, contains_member}
+use Rattle.git_lemmas.proofs.Members.{Member, all_member, contains_member}
+use Rattle.git_defs.proofs.Lengths.{OfLength, all_of_length}
 use Rattle.git_defs.specs.Vectors.{HasZeroSum, Vector, plus}
 use Rattle.git_plane.proofs.PlaneRanks.{rank_turns}
 use Rattle.git_plane.proofs.Wedges.{wedge_or_zero_sum}
-use Rattle.git_ints.specs.Gradings.{IsGrading}
+use Rattle.git_grading.specs.Gradings.{IsGrading}
 use Rattle.git_plane.specs.Wedges.{HasWedge, LiesBetween}
 use Rattle.git_plane.proofs.Turns.{IsAhead, dot-left, dot-right, length-left, length-right}
 use Rattle.git_plane.specs.PlaneListings.{quarter_left, quarter_right}

@@ -1,3 +1,4 @@
+pub mod TurnIdentities
 pub mod PlaneRanks
 pub mod Wedges
 pub mod Turns
@@ -6,7 +7,6 @@ pub mod Directions
 pub mod Chambers
 pub mod Search
 pub mod Listed
-pub mod Sorting
 pub mod Masks
 pub mod PairMasks
 pub mod MaskLists

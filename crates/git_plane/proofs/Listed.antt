@@ -5,17 +5,19 @@ use Rattle.std.proofs.lemmas.Int.{ints}
 use Rattle.std.specs.Prelude.{◌<ℤ◌, Contains, Some, slice_get}
 use Rattle.git_defs.proofs.Closed.{cone_closed, cone_has}
 use Rattle.git_defs.proofs.Linear.{dot-zero, length-plus}
-use Rattle.git_defs.proofs.Members.{Member, OfLength, contains_member, member_contains}
+use Rattle.git_lemmas.proofs.Members.{Member, contains_member, member_contains}
+use Rattle.git_defs.proofs.Lengths.{OfLength}
 use Rattle.git_defs.proofs.Sums.{plus-zero, scale-one}
 use Rattle.git_defs.specs.Chambers.{InChamberOf, IsGeneric}
 use Rattle.git_defs.specs.Cones.{AreFacets, AreRays, Dual, InCone, OnRay, SameSet}
 use Rattle.git_defs.specs.Faces.{cone_at}
-use Rattle.git_defs.specs.Listings.{Chamber, Facet, IsListed, IsSide, Side, boundary, chamber_cone, inner}
+use Rattle.git_listing.specs.Listings.{Chamber, Facet, Side, boundary, inner}
+use Rattle.git_plane.specs.RankTwo.{IsListed, IsSide, chamber_cone}
 use Rattle.git_defs.specs.Vectors.{Vector, dot, plus, scale, vector_sum}
 use Rattle.git_geometry.proofs.Identities.{plus-comm}
 use Rattle.git_geometry.proofs.Rays.{dual_along, rays_along, same_back}
-use Rattle.git_ints.proofs.Turns.{turn-self}
-use Rattle.git_ints.specs.Plane.{turn}
+use Rattle.git_plane.proofs.TurnIdentities.{turn-self}
+use Rattle.git_plane.specs.Turns.{turn}
 use Rattle.git_plane.specs.Wedges.{HasWedge}
 use Rattle.git_plane.proofs.Chambers.{ArePairCones, chamber_of_between}
 use Rattle.git_plane.proofs.Directions.{AreAhead, HasDirection, IsMultiple, direction_in, generic_ahead, multiple_turns, neighbours_hold, neighbours_open, turns_of_multiple}

@@ -3,17 +3,17 @@ use Rattle.std.proofs.Common.{◌≡◌, ◌+◌, ◌-◌, ◌*◌, ◌/◌, ◌
 use Rattle.std.proofs.Math.IntN.{pos}
 use Rattle.std.proofs.lemmas.Int.{ints}
 use Rattle.std.specs.Prelude.{◌<ℤ◌, AllPairs, slice_index}
-use Rattle.git_defs.proofs.Members.{Member, contains_member, member_contains}
+use Rattle.git_lemmas.proofs.Members.{Member, contains_member, member_contains}
 use Rattle.git_defs.specs.Cones.{InCone, SameSet}
 use Rattle.git_defs.specs.Faces.{AreCones, IsGreatestMask, cone_at, face_cone}
 use Rattle.git_defs.specs.Vectors.{Vector}
 use Rattle.git_geometry.proofs.Rays.{same_back, same_through}
-use Rattle.git_ints.proofs.Turns.{turn-self, turn-swap}
-use Rattle.git_ints.specs.Plane.{turn}
+use Rattle.git_plane.proofs.TurnIdentities.{turn-self, turn-swap}
+use Rattle.git_plane.specs.Turns.{turn}
 use Rattle.git_plane.proofs.Chambers.{ArePairCones, HasNumber}
 use Rattle.git_plane.proofs.Directions.{AreAhead}
 use Rattle.git_plane.proofs.PairMasks.{IsSpanMask, face_pair, ends_once, span_mask, span_once}
-use Rattle.git_plane.proofs.Sorting.{AreComparable, Ascends, IsSorting, ascends_of_pairs, once, pairs_of_ascends, sort}
+use Rattle.git_lemmas.proofs.Sorting.{AreComparable, Ascends, IsSorting, ascends_of_pairs, once, pairs_of_ascends, sort}
 use Rattle.git_plane.proofs.Turns.{IsAhead, Turning, apart_left, left, level, level_same, right, turn_on, turning}
 
 -- ---- lists without repetitions

@@ -1,9 +1,10 @@
 -- The face of the columns that pass a test.
 use Rattle.std.proofs.Common.{◌≡◌, ◌+◌, ◌<◌, ◌≤◌, ◌*◌, ◌^◌, ◌/◌, ◌⊎◌, ◌∷◌, [], List, arith, inl, inr, length, refl, subst, suc, sym, ℕ}
-use Rattle.git_defs.proofs.Members.{Member}
+use Rattle.git_lemmas.proofs.Members.{Member}
 use Rattle.git_defs.specs.Faces.{face}
 use Rattle.git_defs.specs.Vectors.{Vector}
-use Rattle.git_minors.proofs.Parts.{face_even, face_odd, face_skip, face_with, odd_or_even}
+use Rattle.git_minors.proofs.Parts.{face_even, face_odd, face_skip, face_with}
+use Rattle.git_bits.proofs.Bits.{odd_or_even}
 
 -- the mask of all columns that pass the test
 pub record IsMaskOf (P : Vector → Type 0) (qs : List Vector) (mask : ℕ) : Type 0 where

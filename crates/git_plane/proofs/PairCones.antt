@@ -6,7 +6,8 @@ use Rattle.std.specs.Prelude.{◌<ℤ◌, ◌≤ℤ◌}
 use Rattle.git_defs.proofs.Closed.{closed_cone, cone_closed, cone_has}
 use Rattle.git_defs.proofs.Cuts.{cut_from, cut_side}
 use Rattle.git_defs.proofs.Linear.{cone_beside}
-use Rattle.git_defs.proofs.Members.{Member, OfLength, more_of_length, none_of_length}
+use Rattle.git_lemmas.proofs.Members.{Member}
+use Rattle.git_defs.proofs.Lengths.{OfLength, more_of_length, none_of_length}
 use Rattle.git_defs.specs.Cones.{AreFacets, AreRays, Cut, Dual, InCone, SameSet}
 use Rattle.git_defs.specs.Vectors.{IsPrimitive, Precedes, Vector, dot}
 use Rattle.git_geometry.proofs.Canonical.{undominated_exact}
@@ -14,8 +15,8 @@ use Rattle.git_geometry.proofs.Facets.{rays_of_exact}
 use Rattle.git_geometry.proofs.Rays.{dual_cut, rays_along, same_back, same_through}
 use Rattle.git_geometry.specs.Generators.{Generates}
 use Rattle.git_geometry.specs.Zeros.{AreUndominated, Dominates}
-use Rattle.git_ints.proofs.Turns.{between_in_cone, turn-self, turn-swap}
-use Rattle.git_ints.specs.Plane.{turn}
+use Rattle.git_plane.proofs.TurnIdentities.{between_in_cone, turn-self, turn-swap}
+use Rattle.git_plane.specs.Turns.{turn}
 use Rattle.git_plane.proofs.Turns.{dot-left, dot-right, left-right, length-left, length-right, primitive_left, primitive_right, right-left, turn-quarters}
 use Rattle.git_plane.specs.PlaneListings.{IsPairOf, quarter_left, quarter_right}
 

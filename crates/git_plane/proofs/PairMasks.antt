@@ -4,17 +4,18 @@ use Rattle.std.proofs.Math.IntN.{pos, ℤ}
 use Rattle.std.proofs.lemmas.Int.{ints}
 use Rattle.std.specs.Prelude.{◌<ℤ◌, ◌≤ℤ◌}
 use Rattle.git_defs.proofs.Closed.{IsClosed, cone_closed, cone_has, sign_of}
-use Rattle.git_defs.proofs.Members.{Member, OfLength, all_member, contains_member, member_contains}
+use Rattle.git_lemmas.proofs.Members.{Member, all_member, contains_member, member_contains}
+use Rattle.git_defs.proofs.Lengths.{OfLength}
 use Rattle.git_defs.specs.Cones.{InCone, SameSet}
 use Rattle.git_defs.specs.Faces.{IsConeFace, IsGreatestMask, SameCone, face, face_cone}
 use Rattle.git_defs.specs.Vectors.{HasZeroSum, Vector}
 use Rattle.git_geometry.proofs.Rays.{same_back, same_through}
 use Rattle.git_minors.proofs.Parts.{face_member, face_of_length}
 use Rattle.git_plane.proofs.PlaneRanks.{rank_turns, turns_rank}
-use Rattle.git_ints.proofs.Turns.{turn-swap}
+use Rattle.git_plane.proofs.TurnIdentities.{turn-swap}
 use Rattle.git_plane.proofs.Wedges.{wedge_or_zero_sum}
 use Rattle.git_geometry.proofs.ZeroSums.{positive_no_zero_sum}
-use Rattle.git_ints.specs.Plane.{turn}
+use Rattle.git_plane.specs.Turns.{turn}
 use Rattle.git_plane.specs.Wedges.{HasTurns, HasWedge, LiesBetween}
 use Rattle.git_plane.proofs.Chambers.{IsPairCone}
 use Rattle.git_plane.proofs.Directions.{AreAhead, HasColumn, HasDirection, direction_in, direction_once, multiple_in, multiple_turns, turns_of_multiple}

@@ -8,26 +8,16 @@ use Rattle.std.specs.Ordering.{int_cmp, ordering_reverse}
 use Rattle.std.specs.Prelude.{AllPairs, Contains, Some, slice_get}
 use Rattle.std.specs.declared.cmp.Ordering.{Ordering}
 use Rattle.std.specs.declared.cmp.Ordering.TheVariants.{Equal, Greater, Less}
-use Rattle.git_defs.proofs.Members.{Member}
-use Rattle.git_defs.specs.Listings.{Chamber, RaysPrecede}
+use Rattle.git_lemmas.proofs.Members.{Member, place_contains, member_place}
+use Rattle.git_listing.specs.Listings.{Chamber, RaysPrecede}
 use Rattle.git_defs.specs.Vectors.{Precedes, Vector}
-use Rattle.git_plane.proofs.Sorting.{Ascends, ascends_of_pairs, once}
+use Rattle.git_lemmas.proofs.Sorting.{Ascends, ascends_of_pairs, once, not_self}
+use Rattle.git_lemmas.proofs.Options.{some_is}
 
 -- ---- places
-pub some_same : {X : Type 0} (x y : X) → Some x ≡ Some y → x ≡ y
-some_same x y e = cc e
-
-pub place_contains : {X : Type 0} (xs : List X) (i : ℕ) (x : X) → slice_get xs i ≡ Some x → Contains xs x
-place_contains xs i x e = (i, slice_get_within xs i x e, get_or_from_slice_get xs i x x e)
-
-pub member_place : {X : Type 0} (x : X) (xs : List X) → Member x xs → (i : ℕ) × (slice_get xs i ≡ Some x)
-member_place x [] m = absurd m
-member_place x (y ∷ xs) (inl e) = (0, ap Some e)
-member_place x (y ∷ xs) (inr m) = let r = member_place x xs m in (suc r.0, r.1)
-
 -- equal images at one place
 pub field_at : {X Y : Type 0} (g : X → Y) (xs ys : List X) (i : ℕ) (x y : X) → map g xs ≡ map g ys → slice_get xs i ≡ Some x → slice_get ys i ≡ Some y → g x ≡ g y
-field_at g xs ys i x y same e f = some_same (g x) (g y) (sym (at xs x e) ∙ ap (λ l. slice_get l i) same ∙ at ys y f) where
+field_at g xs ys i x y same e f = some_is (g x) (g y) (sym (at xs x e) ∙ ap (λ l. slice_get l i) same ∙ at ys y f) where
   at : (zs : List _) (z : _) → slice_get zs i ≡ Some z → slice_get (map g zs) i ≡ Some (g z)
   at zs z h = slice_get-map g zs i ∙ ap (option_map g) h
 
@@ -51,11 +41,6 @@ Before us vs = slice_cmp (slice_cmp int_cmp) us vs ≡ Less
 
 total : IsTotalOrder (slice_cmp (slice_cmp int_cmp))
 total = lists_total (lists_total int_cmp_total)
-
-not_self : (o : Ordering) → o ≡ ordering_reverse o → o ≡ Less → ⊥
-not_self Less e h = cc e
-not_self Equal e h = cc h
-not_self Greater e h = cc h
 
 before_irreflexive : (us : List Vector) → Before us us → ⊥
 before_irreflexive us h = not_self (slice_cmp (slice_cmp int_cmp) us us) (total.antisymm us us) h

@@ -5,19 +5,13 @@ use Rattle.std.proofs.Math.IntN.{ℤ, pos, negsuc, ◌+ℤ◌, ◌-ℤ◌, ◌*�
 use Rattle.std.proofs.lemmas.Int.{ints}
 use Rattle.std.proofs.lemmas.List.Elements.{All-nil, All-cons}
 use Rattle.git_defs.specs.Vectors.{Vector, zero_vector, combination, AreIndependent, HasRank}
-use Rattle.git_defs.proofs.Integers.{diff, diff_add, diff_neg, diff_sub, diff_mul, diff_same, zero_of_mul}
-use Rattle.git_defs.proofs.Members.{OfLength, contains_member}
+use Rattle.git_lemmas.proofs.Integers.{diff, diff_add, diff_neg, diff_sub, diff_mul, diff_same, zero_of_mul, no_product}
+use Rattle.git_defs.proofs.Lengths.{OfLength}
+use Rattle.git_lemmas.proofs.Members.{contains_member}
 use Rattle.git_defs.proofs.PlaneRays.{first_entry, second_entry}
-use Rattle.git_ints.specs.Plane.{turn}
+use Rattle.git_plane.specs.Turns.{turn}
 use Rattle.git_plane.specs.Wedges.{HasTurns}
-use Rattle.git_ints.proofs.Turns.{in_plane}
-
-no_product : (a b : ℤ) → (a ≡ pos 0 → ⊥) → a *ℤ b ≡ pos 0 → b ≡ pos 0
-no_product (pos zero) b some e = absurd (some refl)
-no_product (pos (suc n)) b some e = zero_of_mul (pos (suc n)) b (omega (arith, ints)) e
-no_product (negsuc n) b some e =
-    let f : neg_ℤ (negsuc n) *ℤ b ≡ neg_ℤ (negsuc n *ℤ b) = diff_same (diff_mul (diff_neg (diff (negsuc n))) (diff b)) (diff_neg (diff_mul (diff (negsuc n)) (diff b))) (omega arith) in
-    zero_of_mul (neg_ℤ (negsuc n)) b (omega (arith, ints)) (omega (arith, ints, e, f))
+use Rattle.git_plane.proofs.TurnIdentities.{in_plane}
 
 -- the first number of a combination, times the turn
 eliminated : (m n a b c d : ℤ) → (a *ℤ d -ℤ b *ℤ c) *ℤ m ≡ d *ℤ (m *ℤ a +ℤ (n *ℤ c +ℤ pos 0)) -ℤ c *ℤ (m *ℤ b +ℤ (n *ℤ d +ℤ pos 0))

@@ -3,12 +3,12 @@ use Rattle.std.proofs.Common.{◌⊎◌, ◌∷◌, [], List, arith, inl, inr, r
 use Rattle.std.proofs.Math.IntN.{negsuc, pos, ℤ}
 use Rattle.std.proofs.lemmas.Int.{ints}
 use Rattle.std.specs.Prelude.{◌<ℤ◌, ◌≤ℤ◌}
-use Rattle.git_defs.proofs.Members.{Member, all_member, contains_member, member_contains}
+use Rattle.git_lemmas.proofs.Members.{Member, all_member, contains_member, member_contains}
 use Rattle.git_defs.proofs.Sums.{scale-one}
 use Rattle.git_defs.specs.Chambers.{IsGeneric}
 use Rattle.git_defs.specs.Vectors.{Vector}
-use Rattle.git_ints.proofs.Turns.{turn-swap}
-use Rattle.git_ints.specs.Plane.{turn}
+use Rattle.git_plane.proofs.TurnIdentities.{turn-swap}
+use Rattle.git_plane.specs.Turns.{turn}
 use Rattle.git_plane.specs.Wedges.{HasWedge, LiesBetween}
 use Rattle.git_plane.proofs.Directions.{AreAhead, HasDirection, IsMultiple, generic_ahead, generic_turns, multiple_turns}
 use Rattle.git_plane.proofs.PairCones.{Inside, Opens, inside_of_cone}

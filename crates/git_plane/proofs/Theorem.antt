@@ -3,9 +3,10 @@ use Rattle.std.proofs.Common.{◌≡◌, ◌∙◌, List, ◌∷◌, [], ◌*◌
 use Rattle.git_defs.specs.Chambers.{InChamberOf, IsGeneric}
 use Rattle.git_defs.specs.Cones.{InCone, SameSet}
 use Rattle.git_defs.specs.Faces.{AreCones, cone_at}
-use Rattle.git_defs.specs.Listings.{IsRankTwoListing, Listing}
+use Rattle.git_plane.specs.RankTwo.{IsRankTwoListing}
+use Rattle.git_listing.specs.Listings.{Listing}
 use Rattle.git_defs.specs.Vectors.{Vector}
-use Rattle.git_ints.specs.Gradings.{IsGrading}
+use Rattle.git_grading.specs.Gradings.{IsGrading}
 use Rattle.git_plane.proofs.Behind.{high_of_low, low_of_high}
 use Rattle.git_plane.proofs.Chambers.{ArePairCones, chamber_of_between}
 use Rattle.git_plane.proofs.Directions.{AreAhead, are_ahead, neighbours_open}

@@ -4,14 +4,14 @@ use Rattle.std.proofs.Math.IntN.{◌*ℤ◌, ◌+ℤ◌, ◌-ℤ◌, neg_ℤ, ne
 use Rattle.std.proofs.lemmas.Int.{ints}
 use Rattle.std.specs.Prelude.{◌<ℤ◌, ◌≤ℤ◌}
 use borrow.Author.Differences.{up}
-use Rattle.git_defs.proofs.Integers.{diff, diff_add, diff_mul, diff_neg, diff_same, diff_sub, mul_comm, mul_nonneg, mul_pos, nonneg_of_mul, pos_of_mul}
+use Rattle.git_lemmas.proofs.Integers.{diff, diff_add, diff_mul, diff_neg, diff_same, diff_sub, mul_comm, mul_nonneg, mul_pos, nonneg_of_mul, pos_of_mul, pos_up}
 use Rattle.git_defs.proofs.Linear.{length-scale}
 use Rattle.git_defs.specs.Cones.{OnRay}
 use Rattle.git_defs.specs.Vectors.{IsPrimitive, Vector, dot, plus, scale}
 use Rattle.git_geometry.proofs.Primitive.{primitive_nonzero}
 use Rattle.git_geometry.proofs.Rays.{primitive_of_ray}
-use Rattle.git_ints.proofs.Turns.{in_plane, turn-self, turn-swap}
-use Rattle.git_ints.specs.Plane.{turn}
+use Rattle.git_plane.proofs.TurnIdentities.{in_plane, turn-self, turn-swap}
+use Rattle.git_plane.specs.Turns.{turn}
 use Rattle.git_plane.specs.PlaneListings.{quarter_left, quarter_right}
 
 abbrev cross : ℤ → ℤ → ℤ → ℤ → ℤ
@@ -160,10 +160,6 @@ ahead_between n u v w e a c f opens first rest =
     record { entries = f; above = pos_of_mul (turn u w) (dot n v) opens (omega (arith, ints, left, right, sum, turned)) }
 
 -- ---- no turn: one ray
-pos_up : (z : ℤ) → pos 0 <ℤ z → pos (up z) ≡ z
-pos_up (pos n) h = refl
-pos_up (negsuc n) h = absurd (omega (arith, ints))
-
 some_up : (z : ℤ) → pos 0 <ℤ z → 0 < up z
 some_up z h = omega (arith, ints)
 
@@ -203,7 +199,7 @@ level_ray n u v e a b level = record {
     multiple = up (dot n v);
     times = up (dot n u);
     positive = some_up (dot n v) b.above;
-    same = ap (λ (z : ℤ). scale z u) (pos_up (dot n v) b.above) ∙ same_side n u v e a.entries b.entries level ∙ ap (λ (z : ℤ). scale z v) (sym (pos_up (dot n u) a.above));
+    same = ap (λ (z : ℤ). scale z u) (pos_up (dot n v) (let h = b.above in omega (arith, ints, h))) ∙ same_side n u v e a.entries b.entries level ∙ ap (λ (z : ℤ). scale z v) (sym (pos_up (dot n u) (let h = a.above in omega (arith, ints, h))));
   };
   some = some_up (dot n u) a.above;
 }

@@ -1,21 +1,22 @@
 -- A grading with two rows has one listing.
 use Rattle.std.proofs.Common.{◌≡◌, ◌+◌, ◌∙◌, ◌∷◌, [], List, ap, inl, inr, length, map, refl, subst, sym, ℕ}
 use Rattle.std.specs.Prelude.{AllPairs, Contains, Some, slice_get}
-use Rattle.git_defs.proofs.Members.{Member, contains_member, member_contains}
+use Rattle.git_lemmas.proofs.Members.{Member, contains_member, member_contains, member_place, place_contains}
 use Rattle.git_defs.specs.Chambers.{InChamberOf, IsGeneric}
 use Rattle.git_defs.specs.Cones.{AreRays, Dual, IsExtreme}
 use Rattle.git_defs.specs.Faces.{cone_at}
-use Rattle.git_defs.specs.Listings.{Chamber, Facet, IsListed, IsNeighbour, IsRankTwoListing, IsSide, Listing, RaysPrecede, Side, boundary, chamber_cone, inner}
+use Rattle.git_listing.specs.Listings.{Chamber, Facet, Listing, RaysPrecede, Side, boundary, inner}
+use Rattle.git_plane.specs.RankTwo.{IsListed, IsNeighbour, IsRankTwoListing, IsSide, chamber_cone}
 use Rattle.git_defs.specs.Vectors.{Vector, vector_sum}
 use Rattle.git_geometry.proofs.Sorted.{rays_once}
-use Rattle.git_ints.specs.Gradings.{IsGrading}
+use Rattle.git_grading.specs.Gradings.{IsGrading}
 use Rattle.git_plane.specs.Wedges.{HasWedge}
 use Rattle.git_plane.proofs.Behind.{behind_once}
 use Rattle.git_plane.proofs.Chambers.{ArePairCones}
 use Rattle.git_plane.proofs.Directions.{AreAhead, has_directions}
 use Rattle.git_plane.proofs.Gradings.{grading_side}
 use Rattle.git_plane.proofs.MaskLists.{cone_list, cones_once}
-use Rattle.git_plane.proofs.Places.{field_at, map_size, member_place, other_at, place_contains, ray_lists, rays_in, same_lists, same_ray_lists, with_rays}
+use Rattle.git_plane.proofs.Places.{field_at, map_size, other_at, ray_lists, rays_in, same_lists, same_ray_lists, with_rays}
 
 -- what a listing says of its chambers
 record AreChambers (qs : List Vector) (masks : List ℕ) (cs : List Chamber) : Type 0 where
@@ -118,4 +119,4 @@ listing_once qs l m grading p q =
     let rank = p.rank ∙ sym q.rank in
     let size = p.size ∙ sym q.size in
     let count = p.cones ∙ ap length same ∙ sym q.cones in
-    λ j. record { rank = rank j; columns = size j; cones = count j; chambers = chambers j }
+    λ j. record { k = rank j; r = size j; cones = count j; chambers = chambers j }

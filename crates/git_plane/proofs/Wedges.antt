@@ -6,14 +6,15 @@ use Rattle.std.proofs.lemmas.Int.{ints}
 use borrow.Author.Differences.{up}
 use Rattle.git_defs.specs.Vectors.{Vector, zero_vector, scale, dot, HasZeroSum}
 use Rattle.git_defs.specs.Cones.{InCone}
-use Rattle.git_defs.proofs.Integers.{diff, diff_add, diff_neg, diff_sub, diff_mul, diff_same, mul_nonneg, mul_pos, pos_of_mul, zero_of_mul}
-use Rattle.git_defs.proofs.Members.{Member, OfLength, first_of_length, rest_of_length, member_contains, contains_member, all_member, member_all}
+use Rattle.git_lemmas.proofs.Integers.{diff, diff_add, diff_neg, diff_sub, diff_mul, diff_same, mul_nonneg, mul_pos, pos_of_mul, zero_of_mul, pos_up, square_zero}
+use Rattle.git_lemmas.proofs.Members.{Member, member_contains, contains_member, all_member, member_all}
+use Rattle.git_defs.proofs.Lengths.{OfLength, first_of_length, rest_of_length}
 use Rattle.git_defs.proofs.Linear.{length-scale}
 use Rattle.git_defs.proofs.Closed.{closed_cone, cone_closed, cone_has, sign_of, positive_or_zero}
-use Rattle.git_ints.specs.Plane.{turn}
+use Rattle.git_plane.specs.Turns.{turn}
 use Rattle.git_plane.specs.Wedges.{LiesBetween, HasWedge, HasTurns}
 use Rattle.git_geometry.proofs.ZeroSums.{zero_sum_later, zero_sum_of_negative, positive_no_zero_sum}
-use Rattle.git_ints.proofs.Turns.{in_plane, between_in_cone, turn-self, turn-swap, turn-negative, negative-turn, turn-exchange, turn-lagrange}
+use Rattle.git_plane.proofs.TurnIdentities.{in_plane, between_in_cone, turn-self, turn-swap, turn-negative, negative-turn, turn-exchange, turn-lagrange}
 
 -- v lies on the ray of u
 record Along (u v : Vector) : Type 0 where
@@ -141,10 +142,6 @@ second_opposite a b e f = diff_same
 times_none : (b z : ℤ) → z ≡ pos 0 → b *ℤ z ≡ pos 0
 times_none b z e = ap (λ (x : ℤ). b *ℤ x) e ∙ diff_same (diff_mul (diff b) (diff (pos 0))) (diff (pos 0)) (omega arith)
 
-pos_up : (z : ℤ) → pos 0 ≤ℤ z → pos (up z) ≡ z
-pos_up (pos n) h = refl
-pos_up (negsuc n) h = absurd (omega (arith, ints))
-
 opposite_entries : (a b e f : ℤ) → pos 0 <ℤ dot (a ∷ b ∷ []) (a ∷ b ∷ []) → turn (a ∷ b ∷ []) (e ∷ f ∷ []) ≡ pos 0 → dot (a ∷ b ∷ []) (e ∷ f ∷ []) ≤ℤ pos 0
     → InCone 2 ((a ∷ b ∷ []) ∷ []) (scale (negsuc 0) (e ∷ f ∷ []))
 opposite_entries a b e f some level behind =
@@ -175,18 +172,13 @@ opposite_in vs u g have h m some level behind =
 -- ---- the four cases
 square : (v : Vector) → length v ≡ 2 → (v ≡ zero_vector 2) ⊎ (pos 0 <ℤ dot v v)
 square = in_plane (λ v. (v ≡ zero_vector 2) ⊎ (pos 0 <ℤ dot v v)) entries where
-  square_of : (a : ℤ) → (a ≡ pos 0) ⊎ (pos 0 <ℤ (a *ℤ a))
-  square_of (pos zero) = inl refl
-  square_of (pos (suc n)) = inr (mul_pos (pos (suc n)) (pos (suc n)) (omega (arith, ints)) (omega (arith, ints)))
-  square_of (negsuc n) = inr (subst (λ (z : ℤ). pos 0 <ℤ z) (diff_same (diff_mul (diff_neg (diff (negsuc n))) (diff_neg (diff (negsuc n)))) (diff_mul (diff (negsuc n)) (diff (negsuc n))) (omega arith)) (mul_pos (neg_ℤ (negsuc n)) (neg_ℤ (negsuc n)) (omega (arith, ints)) (omega (arith, ints))))
-
   entries : (a b : ℤ) → (a ∷ b ∷ [] ≡ zero_vector 2) ⊎ (pos 0 <ℤ (a *ℤ a +ℤ (b *ℤ b +ℤ pos 0)))
-  entries a b = elim (square_of a) [
-    | inl p ↦ elim (square_of b) [
+  entries a b = elim (square_zero a) [
+    | inl p ↦ elim (square_zero b) [
       | inl q ↦ inl (λ i. p i ∷ q i ∷ [])
       | inr q ↦ inr (let none = times_none a a p in omega (arith, ints, q, none))
     ]
-    | inr p ↦ elim (square_of b) [
+    | inr p ↦ elim (square_zero b) [
       | inl q ↦ inr (let none = times_none b b q in omega (arith, ints, p, none))
       | inr q ↦ inr (omega (arith, ints, p, q))
     ]

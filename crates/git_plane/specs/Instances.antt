@@ -1,7 +1,8 @@
 -- The listing of four columns, worked by hand.
 use Rattle.std.specs.Prelude.{List, [], ◌∷◌, pos, negsuc}
 use Rattle.git_defs.specs.Vectors.{Vector}
-use Rattle.git_defs.specs.Listings.{boundary, inner, Chamber, Listing, IsRankTwoListing}
+use Rattle.git_listing.specs.Listings.{boundary, inner, Chamber, Listing}
+use Rattle.git_plane.specs.RankTwo.{IsRankTwoListing}
 
 abbrev pub east : Vector
 east = pos 1 ∷ pos 0 ∷ []
@@ -33,7 +34,7 @@ right_chamber = record {
 }
 
 abbrev pub two_chambers : Listing
-two_chambers = record { rank = 2; columns = 4; cones = 3; chambers = left_chamber ∷ right_chamber ∷ [] }
+two_chambers = record { k = 2; r = 4; cones = 3; chambers = left_chamber ∷ right_chamber ∷ [] }
 
 abbrev pub FourColumnsHaveTwoChambers : Type 0
 FourColumnsHaveTwoChambers = IsRankTwoListing four_columns two_chambers

@@ -4,9 +4,10 @@ use Rattle.git_defs.specs.Vectors.{Vector, IsPrimitive, Precedes}
 use Rattle.git_defs.specs.Cones.{InCone, SameSet, AreRays, AreFacets}
 use Rattle.git_defs.specs.Faces.{AreCones, cone_at}
 use Rattle.git_defs.specs.Chambers.{InChamberOf, IsGeneric}
-use Rattle.git_defs.specs.Listings.{Listing, IsRankTwoListing}
-use Rattle.git_ints.specs.Gradings.{IsGrading}
-use Rattle.git_ints.specs.Plane.{turn}
+use Rattle.git_listing.specs.Listings.{Listing}
+use Rattle.git_plane.specs.RankTwo.{IsRankTwoListing}
+use Rattle.git_grading.specs.Gradings.{IsGrading}
+use Rattle.git_plane.specs.Turns.{turn}
 use Rattle.git_plane.specs.PlaneListings.{quarter_left, quarter_right, IsPairOf, AreDirections, AreNeighbours, IsPlaneListing}
 use Rattle.git_plane.specs.Neighbours.{IsBetweenNeighbours}
 

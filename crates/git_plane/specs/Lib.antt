@@ -1,3 +1,5 @@
+pub mod Turns
+pub mod RankTwo
 pub mod Wedges
 pub mod PlaneListings
 pub mod Neighbours

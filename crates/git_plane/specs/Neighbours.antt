@@ -1,7 +1,7 @@
 -- Where weights of the plane lie.
 use Rattle.std.specs.Prelude.{List, pos, ◌<ℤ◌}
 use Rattle.git_defs.specs.Vectors.{Vector}
-use Rattle.git_ints.specs.Plane.{turn}
+use Rattle.git_plane.specs.Turns.{turn}
 use Rattle.git_plane.specs.PlaneListings.{AreNeighbours}
 
 -- the weight lies strictly between two neighbouring directions

@@ -1,9 +1,9 @@
 -- The listing of chambers in the plane, in words that a program can check: turns between the directions of the columns.
 use Rattle.std.specs.Prelude.{◌≡◌, ◌≢◌, ◌⊎◌, ℕ, ◌+◌, ◌*◌, ◌-◌, ◌/◌, List, [], ◌∷◌, length, pos, neg_ℤ, ◌<ℤ◌, map, Contains, AllPairs, slice_get, Some}
 use Rattle.git_defs.specs.Vectors.{Vector, vector_sum, Precedes}
-use Rattle.git_defs.specs.Listings.{Side, boundary, inner, Facet, Chamber, Listing, RaysPrecede}
+use Rattle.git_listing.specs.Listings.{Side, boundary, inner, Facet, Chamber, Listing, RaysPrecede}
 use Rattle.git_ints.specs.Content.{IsPrimitivePart}
-use Rattle.git_ints.specs.Plane.{turn}
+use Rattle.git_plane.specs.Turns.{turn}
 
 -- the vector a quarter turn to the left
 abbrev pub quarter_left : Vector → Vector
@@ -63,8 +63,8 @@ pub record IsPairChamber (chambers : List Chamber) (i : ℕ) (low high : Vector)
 
 -- the listed chambers are those between neighbouring directions, and the cones as many as pairs of directions
 pub record IsPlaneListing (columns : List Vector) (listing : Listing) : Type 0 where
-  pub rank : listing.rank ≡ 2
-  pub size : listing.columns ≡ length columns
+  pub rank : listing.k ≡ 2
+  pub size : listing.r ≡ length columns
   pub directions : List Vector
   pub are_directions : AreDirections columns directions
   pub cones : listing.cones ≡ length directions * (length directions - 1) / 2

@@ -2,7 +2,7 @@
 use Rattle.std.specs.Prelude.{◌≢◌, List, pos, ◌≤ℤ◌, ◌<ℤ◌, Contains, All}
 use Rattle.std.proofs.Math.IntN.{◌+ℤ◌}
 use Rattle.git_defs.specs.Vectors.{Vector}
-use Rattle.git_ints.specs.Plane.{turn}
+use Rattle.git_plane.specs.Turns.{turn}
 
 -- v is not 0 and lies from low, turning left, to high
 pub record LiesBetween (low high v : Vector) : Type 0 where

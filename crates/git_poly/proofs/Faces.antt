@@ -1,6 +1,6 @@
 -- The terms of a sum whose variables are all in a face.
 use Rattle.std.proofs.Common.{zero, suc, ℕ, ◌+◌, ◌<◌, ◌≤◌, ◌≡◌, ◌≢◌, refl, List, [], ◌∷◌, ◌++◌, length, get_or, sym, ap, ◌∙◌, subst, arith, Bool, true, false, cond, inl, inr, append-nil}
-use Rattle.std.specs.Prelude.{◌==◌, ◌||◌, ◌&&◌, ◌/◌, ◌%◌, ◌^◌, filter, All}
+use Rattle.std.specs.Prelude.{◌==◌, ◌||◌, ◌&&◌, filter, All}
 use Rattle.std.specs.List.{list_all, range_with_len}
 use Rattle.std.proofs.lemmas.Bool.{cases_eq, ne_eqb}
 use Rattle.git_algebra.specs.Exponents.{Exponents, exponent, in_face}
@@ -10,13 +10,14 @@ use Rattle.git_algebra.specs.Polynomials.{Proper, RanksBelow}
 use Rattle.git_algebra.proofs.Congruence.{alike_refl}
 use Rattle.git_poly.specs.declared.term.Term.{Term}
 use Rattle.git_poly.specs.Terms.{sum_of, IsForm}
+use Rattle.git_bits.specs.Bits.{has_bit}
 
 -- whether the exponent at a place is 0 or the place is in the face
 abbrev pub place_in_face : ℕ → Exponents → ℕ → Bool
-place_in_face mask a i = exponent a i == 0 || (mask / 2 ^ i) % 2 == 1
+place_in_face mask a i = exponent a i == 0 || has_bit mask i
 
-pub place_outside : (mask : ℕ) (a : Exponents) (i : ℕ) → exponent a i ≢ 0 → (mask / 2 ^ i) % 2 ≡ 0 → place_in_face mask a i ≡ false
-place_outside mask a i some none = λ j. ne_eqb (exponent a i) 0 some j || ne_eqb ((mask / 2 ^ i) % 2) 1 (λ e. omega arith) j
+pub place_outside : (mask : ℕ) (a : Exponents) (i : ℕ) → exponent a i ≢ 0 → has_bit mask i ≡ false → place_in_face mask a i ≡ false
+place_outside mask a i some none = λ j. ne_eqb (exponent a i) 0 some j || none j
 
 all_true : (p : ℕ → Bool) (a n : ℕ) → ((k : ℕ) → a ≤ k → k < a + n → p k ≡ true) → list_all p (range_with_len a n) ≡ true
 all_true p a zero each = refl

@@ -4,11 +4,11 @@ use Rattle.std.specs.Prelude.{map, slice_get}
 use Rattle.std.proofs.Math.IntN.{pos, ◌+ℤ◌, ◌*ℤ◌}
 use Rattle.std.proofs.lemmas.Int.{ints}
 use Rattle.git_defs.specs.Vectors.{Vector, zero_vector, scale, plus, combination}
-use Rattle.git_defs.proofs.Members.{OfLength, first_of_length, rest_of_length}
+use Rattle.git_defs.proofs.Lengths.{OfLength, first_of_length, rest_of_length}
 use Rattle.git_defs.proofs.Linear.{length-scale}
 use Rattle.git_defs.proofs.Sums.{plus-zero, zero-plus}
 use Rattle.git_ints.specs.Padded.{AreWithin}
-use Rattle.git_ints.proofs.Sizes.{abs_mul_le, abs_add_le}
+use Rattle.git_lemmas.proofs.Integers.{abs_mul, abs_add}
 
 plus-assoc : (u v w : Vector) → plus u (plus v w) ≡ plus (plus u v) w
 plus-assoc [] [] [] = refl
@@ -53,7 +53,7 @@ sum_within [] [] c n a b h i d g = absurd (omega arith)
 sum_within [] (y ∷ v) c n a b h i d g = absurd (omega arith)
 sum_within (x ∷ u) [] c n a b h i d g = absurd (omega arith)
 sum_within (x ∷ u) (y ∷ v) c n a b h zero d g =
-    abs_add_le x (pos c *ℤ y) n 64000 (a 0 d (omega arith)) (abs_mul_le (pos c) y 64 1000 (omega (arith, ints, h)) (b 0 d (omega arith)))
+    abs_add x (pos c *ℤ y) n 64000 (a 0 d (omega arith)) (abs_mul (pos c) y 64 1000 (omega (arith, ints, h)) (b 0 d (omega arith)))
 sum_within (x ∷ u) (y ∷ v) c n a b h (suc i) d g =
     sum_within u v c n (λ j e l. a (suc j) e (omega arith)) (λ j e l. b (suc j) e (omega arith)) h i d (omega arith)
 

@@ -9,6 +9,7 @@ use Rattle.git_algebra.specs.Operations.{first_term, greatest_degree}
 use Rattle.git_algebra.proofs.Normal.{terms_is}
 use Rattle.git_poly.specs.declared.term.Term.{Term}
 use Rattle.git_poly.specs.Terms.{sum_of}
+use Rattle.git_lemmas.proofs.Options.{some_unless_none}
 
 pub length-sum_of : (ts : List Term) → length (sum_of ts) ≡ length ts
 length-sum_of [] = refl
@@ -52,10 +53,6 @@ all_taken [] zero h = refl
 all_taken [] (suc n) h = refl
 all_taken (t ∷ ts) zero h = absurd (omega arith)
 all_taken (t ∷ ts) (suc n) h = λ i. (t.mono, t.number) ∷ all_taken ts n (omega arith) i
-
-pub some_unless_none : {A : Type 0} (o : Option A) → (IsNone o → ⊥) → IsSome o
-some_unless_none None h = absurd (h refl)
-some_unless_none (Some x) h = refl
 
 -- the first term, through a slice
 pub first_some : (ts us : List Term) (x : Term) → us ≡ ts → Some x ≡ slice_get us 0 → first_term (sum_of ts) ≡ Some (x.mono, x.number)

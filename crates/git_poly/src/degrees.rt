@@ -5,7 +5,8 @@ ghost use Rattle.git_defs.specs.Vectors.{zero_vector};
 ghost use Rattle.git_poly.specs.Degrees.{degree_under, IsGradedBy, HasOneDegree, IsFirstApart};
 
 use crate::term::Term;
-use git_ints::{Grading, IVec};
+use git_grading::Grading;
+use git_ints::IVec;
 use git_mono::Mono;
 
 /// The degree of a monomial: the sum of the columns, each times the exponent of its variable. Each

@@ -13,7 +13,7 @@ use crate::term::Term;
 use crate::terms::{are_in_face, kept, merged, product_of, scaled, shifted};
 use git_base::NoMemory;
 use git_field::Fp;
-use git_ints::Grading;
+use git_grading::Grading;
 use git_mono::{MONO_DEGREE, Mono};
 use std::alloc::Global;
 use std::marker::Model;

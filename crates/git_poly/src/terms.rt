@@ -9,6 +9,7 @@ ghost use Rattle.git_poly.specs.Terms.{sum_of, IsForm};
 
 use crate::term::Term;
 use git_base::NoMemory;
+use git_bits::has_bit;
 use git_field::{Fp, MODULUS};
 use git_mono::{DegRevLex, MONO_DEGREE, Mono, MonomialOrder};
 use std::alloc::Global;
@@ -139,7 +140,7 @@ fn is_in_face(mask: u32, m: &Mono) -> bool
     ensures { result ≡ in_face mask m.now }
 {
     for i in 0..17 {
-        if m.exponent(i) != 0 && (mask >> i) % 2 == 0 {
+        if m.exponent(i) != 0 && !has_bit(u64::from(mask), i as u32) {
             return false;
         }
     }

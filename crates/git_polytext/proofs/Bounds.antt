@@ -5,20 +5,8 @@ use Rattle.std.specs.List.{range_with_len, sum_by}
 use Rattle.std.proofs.lemmas.Bool.{cases_eq, cases_lt, ne_eqb}
 use Rattle.std.proofs.lemmas.List.Sums.{sum_by-le-sum_by}
 use Rattle.git_algebra.specs.Exponents.{Exponents, exponent, exponents_by, one, times, variable_power, degree}
-use Rattle.git_algebra.proofs.Monomials.{exponent-by, exponent_past, exponent-one, exponent-times, degree_sum}
-
--- ---- a power of a variable
-
-pub exponent_same : (i e : ℕ) → i < 17 → exponent (variable_power i e) i ≡ e
-unfolding variable_power
-exponent_same i e h = exponent-by (λ k. if i == k then e else 0) i h ∙ (λ j. if eq-eqb i i refl j then e else 0)
-
-pub exponent_other : (i e k : ℕ) → i ≢ k → exponent (variable_power i e) k ≡ 0
-unfolding variable_power
-exponent_other i e k other = elim (cases_lt k 17) [
-  | inl within ↦ exponent-by (λ k. if i == k then e else 0) k within ∙ (λ j. if ne_eqb i k other j then e else 0)
-  | inr past ↦ exponent_past (exponents_by (λ k. if i == k then e else 0)) k past
-]
+use Rattle.git_algebra.proofs.Monomials.{exponent-by, exponent_past, exponent-one, exponent-times, degree_sum, exponent_same, exponent_other}
+use Rattle.git_lemmas.proofs.Options.{some_unless_none}
 
 exponent_within : (i e : ℕ) → exponent (variable_power i e) i ≤ e
 exponent_within i e = elim (cases_lt i 17) [
@@ -44,10 +32,6 @@ pub degree_small : (a : Exponents) → ((i : ℕ) → exponent a i ≤ 64) → d
 degree_small a small =
     let all : sum_by (exponent a) (range_with_len 0 17) ≤ sum_by (λ (i : ℕ). 64) (range_with_len 0 17) = sum_by-le-sum_by (exponent a) (λ (i : ℕ). 64) (range_with_len 0 17) small in
     omega (arith, all, degree_sum a, constant_sum)
-
-some_unless_none : {A : Type 0} (o : Option A) → (IsNone o → ⊥) → IsSome o
-some_unless_none None h = absurd (h refl)
-some_unless_none (Some x) h = refl
 
 -- the product of one power more has no degree above the limit of monomials
 pub raised_fits : (o : Option Exponents) (m v : Exponents) (place e : ℕ) → IsNone o ↔ (67108864 < degree (times m v)) → v ≡ variable_power place e

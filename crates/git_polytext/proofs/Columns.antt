@@ -4,6 +4,7 @@ use Rattle.git_lines.specs.declared.tokens.Joining.TheVariants.{Signs}
 use Rattle.git_lines.specs.Tokens.{Token, RestOfLine, goes_on, grown, tokens_by, joins_in, rest_from, taken_of, next_token, texts}
 use Rattle.git_lines.specs.Parts.{Part, grown_part, parts_by}
 use Rattle.git_polytext.specs.Pieces.{signs, is_nil, after_blank}
+use Rattle.git_lines.proofs.Exact.{empty_taken}
 
 -- ---- tokens
 
@@ -49,10 +50,6 @@ parts_same ends s t c d (b ∷ bytes) =
     (parts_same ends (Some b) (Some b) (c + 1) (d + 1) bytes) (parts_same ends s t (c + 1) (d + 1) bytes)
 
 -- ---- before the first sign
-
-empty_taken : (rest : RestOfLine) (ts : List Token) → taken_of rest ts ≡ None → ts ≡ []
-empty_taken rest [] e = refl
-empty_taken rest (t ∷ ts) e = absurd (cc e)
 
 -- no token, so no sign
 pub blank_by : (line column : ℕ) (text : List ℕ) (rest : RestOfLine) → rest ≡ rest_from Signs line column text → next_token rest ≡ None → signs text ≡ []

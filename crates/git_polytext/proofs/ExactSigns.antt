@@ -13,14 +13,14 @@ use Rattle.git_lines.specs.Parts.{Part}
 use Rattle.git_lines.specs.Grammar.{Together}
 use Rattle.git_lines.proofs.Exact.{bind_ok, lift_ok, ok_is, guard_ok, with_tokens, next_takes, next_again, word_takes, word_again, texts_cons}
 use Rattle.git_algebra.specs.Exponents.{Exponents, exponent, times, variable_power}
-use Rattle.git_algebra.proofs.Monomials.{exponent-times, times_assoc, times-one}
+use Rattle.git_algebra.proofs.Monomials.{exponent-times, times_assoc, times-one, exponent_same}
 use Rattle.git_polytext.specs.declared.fault.PolynomialFault.{PolynomialFault}
 use Rattle.git_polytext.specs.declared.fault.PolynomialFault.TheVariants.{Form}
 use Rattle.git_polytext.specs.Pieces.{signs}
 use Rattle.git_polytext.specs.Terms.{product_of}
 use Rattle.git_polytext.specs.Reading.{number_in, number_sign, bracket_in, bracket_sign, exponent_in, exponent_sign, no_sign, known, raised, power_signs, power_parts, signs_of}
 use Rattle.git_polytext.specs.Grammar.{IsNumber, IsExponent, IsPower}
-use Rattle.git_polytext.proofs.Bounds.{exponent_same, raised_small}
+use Rattle.git_polytext.proofs.Bounds.{raised_small}
 use Rattle.git_polytext.proofs.Columns.{signs_same, part_texts}
 
 le_from : (a b : ℕ) → nat_le a b ≡ true → a ≤ b

@@ -10,13 +10,13 @@ use Rattle.git_lines.specs.Numbers.{is_digit}
 use Rattle.git_lines.specs.Parts.{Part, parts, separates}
 use Rattle.git_lines.proofs.Exact.{bind_ok, ok_is, with_tokens, next_takes, next_again, texts_cons, texts_nil}
 use Rattle.git_algebra.specs.Exponents.{Exponents, exponent, one, times, variable_power}
-use Rattle.git_algebra.proofs.Monomials.{one-times, exponent-one, exponent-times}
+use Rattle.git_algebra.proofs.Monomials.{one-times, exponent-one, exponent-times, exponent_same}
 use Rattle.git_polytext.specs.declared.fault.PolynomialFault.{PolynomialFault}
 use Rattle.git_polytext.specs.Pieces.{signs}
 use Rattle.git_polytext.specs.Terms.{after_sign, product_of}
 use Rattle.git_polytext.specs.Reading.{number_sign, no_sign, power_signs, power_parts, signs_of, begins_term, within_count, begun, first_in, first_factor, term_in, term_part}
 use Rattle.git_polytext.specs.Grammar.{IsNumber, IsPower, IsCoefficient, IsProduct, IsTerm}
-use Rattle.git_polytext.proofs.Bounds.{one_small, raised_small, exponent_same}
+use Rattle.git_polytext.proofs.Bounds.{one_small, raised_small}
 use Rattle.git_polytext.proofs.Columns.{signs_same, part_texts, parts_same}
 use Rattle.git_polytext.proofs.ExactSigns.{number_takes, number_again, nothing_takes, nothing_again, power_takes, power_again, factors_take, factors_again, place_below}
 

@@ -11,11 +11,10 @@ use Rattle.git_algebra.specs.Exponents.{Exponents, exponent, variable_power}
 use Rattle.git_algebra.specs.Order.{rank}
 use Rattle.git_algebra.specs.Sums.{Sum}
 use Rattle.git_algebra.specs.Polynomials.{Polynomial, normal, normal_list, entry, put, put_by}
-use Rattle.git_algebra.proofs.Monomials.{exponent-one, exponent-times}
+use Rattle.git_algebra.proofs.Monomials.{exponent-one, exponent-times, exponent_other}
 use Rattle.git_poly.specs.Degrees.{IsGradedBy, HasMonomial, AreGradedBy}
 use Rattle.git_polytext.specs.Terms.{product_of}
 use Rattle.git_polytext.specs.Grammar.{IsPower, IsProduct, IsTerm, IsPolynomialLine}
-use Rattle.git_polytext.proofs.Bounds.{exponent_other}
 
 -- ---- what holds of each monomial of a sum
 

@@ -2,10 +2,9 @@
 use Rattle.std.proofs.Common.{◌≡◌, ◌≢◌, ℕ, zero, suc, ◌+◌, ◌<◌, ◌≤◌, List, [], ◌∷◌, length, get_or, sym, ap, ◌∙◌, subst, arith}
 use Rattle.std.specs.List.{AllByRecursion}
 use Rattle.git_algebra.specs.Exponents.{Exponents, exponent, variable_power, degree}
-use Rattle.git_algebra.proofs.Monomials.{same_exponents, exponent-one, exponent-times, degree-one}
+use Rattle.git_algebra.proofs.Monomials.{same_exponents, exponent-one, exponent-times, degree-one, exponent_same, exponent_other}
 use Rattle.git_polytext.specs.Terms.{product_of}
 use Rattle.git_polytext.specs.Printing.{powers_from, powers_of}
-use Rattle.git_polytext.proofs.Bounds.{exponent_same, exponent_other}
 
 -- what holds of each place with an exponent holds of each power
 pub each_power : (P : ℕ × ℕ → Type 0) (i : ℕ) (es : List ℕ) → ((k : ℕ) → k < length es → 0 < get_or es k 0 → P (i + k, get_or es k 0)) → AllByRecursion P (powers_from i es)

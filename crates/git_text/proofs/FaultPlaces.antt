@@ -9,7 +9,7 @@ use Rattle.std.proofs.lemmas.Bool.{cases_lt}
 use Rattle.git_algebra.specs.Exponents.{Exponents}
 use Rattle.git_algebra.specs.Polynomials.{Polynomial}
 use Rattle.git_defs.specs.Vectors.{Vector}
-use Rattle.git_ints.specs.Gradings.{Degrees}
+use Rattle.git_grading.specs.Gradings.{Degrees}
 use Rattle.git_lines.specs.declared.fault.FormFault.{FormFault}
 use Rattle.git_lines.specs.declared.tokens.Joining.TheVariants.{Words}
 use Rattle.git_lines.specs.Lines.{RestOfText, NumberedLine, IsColumnOf, content, contents, lines_of}
@@ -26,7 +26,8 @@ use Rattle.git_text.specs.declared.fault.BadKind.TheVariants.{Truncated, Trailin
 use Rattle.git_text.specs.declared.fault.InputFault.{InputFault}
 use Rattle.git_text.specs.declared.fault.InputFault.TheVariants.{Bad, NoMemory}
 use Rattle.git_text.specs.Faults.{form_bad, polynomial_bad, as_input}
-use Rattle.git_text.specs.Grammar.{InputValue, columns_of, contents_of}
+use Rattle.git_input.specs.Inputs.{InputValue}
+use Rattle.git_text.specs.Grammar.{columns_of, contents_of}
 use Rattle.git_text.specs.OneDegree.{apart}
 use Rattle.git_text.specs.Laws.{IsPlaceIn}
 use Rattle.git_text.specs.Reading.{header_words, header_line, as_header, sizes_line, row_line, ideal_line, end_line, generator_line, homogeneous_by, form_by, next_by, sizes_at, rows_at, columns_at, matrix_at, generators_at, rest_at, nothing_after, Verdict, judged_by, JudgesMatrix, JudgesGrading, JudgesRead, ReadsFront, whole_text, Reads, IsFirstFault}

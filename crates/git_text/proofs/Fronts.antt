@@ -4,7 +4,7 @@ use Rattle.std.specs.Prelude.{pos}
 use Rattle.std.proofs.lemmas.Int.{ints}
 use Rattle.std.proofs.lemmas.List.FromFn.{length-map-range_with_len}
 use Rattle.git_defs.specs.Vectors.{Vector, AllOfLength, HasRank, HasZeroSum}
-use Rattle.git_ints.specs.Gradings.{Degrees}
+use Rattle.git_grading.specs.Gradings.{Degrees}
 use Rattle.git_lines.specs.Lines.{RestOfText, contents}
 use Rattle.git_lines.specs.Reading.{◌>>=◌}
 use Rattle.git_lines.specs.Grammar.{IsInteger}

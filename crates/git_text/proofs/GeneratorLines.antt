@@ -10,7 +10,7 @@ use Rattle.git_algebra.specs.Exponents.{Exponents}
 use Rattle.git_algebra.specs.Order.{rank}
 use Rattle.git_algebra.specs.Sums.{Sum}
 use Rattle.git_algebra.specs.Polynomials.{Polynomial, normal, normal_list, put, put_by, entry}
-use Rattle.git_ints.specs.Gradings.{Degrees}
+use Rattle.git_grading.specs.Gradings.{Degrees}
 use Rattle.git_poly.specs.Degrees.{IsHomogeneous, AreGradedBy}
 use Rattle.git_lines.specs.Lines.{RestOfText, contents}
 use Rattle.git_lines.specs.Reading.{lift}
@@ -23,8 +23,8 @@ use Rattle.git_polytext.proofs.Graded.{lines_graded}
 use Rattle.git_text.specs.declared.fault.BadKind.TheVariants.{Homogeneous}
 use Rattle.git_text.specs.declared.fault.InputFault.TheVariants.{Bad}
 use Rattle.git_text.specs.Faults.{form_bad, polynomial_bad, as_input}
-use Rattle.git_text.specs.Grammar.{InputValue, IsIdeal, IsEnd, IsGenerator}
-use Rattle.git_text.specs.Inputs.{AreGenerators}
+use Rattle.git_input.specs.Inputs.{InputValue, AreGenerators}
+use Rattle.git_text.specs.Grammar.{IsIdeal, IsEnd, IsGenerator}
 use Rattle.git_text.specs.OneDegree.{apart}
 use Rattle.git_text.specs.Laws.{AreApartAsRead}
 use Rattle.git_text.specs.Reading.{homogeneous_by, generator_line, form_by, ideal_line, end_line, generators_at, rest_at}

@@ -7,7 +7,7 @@ use Rattle.std.proofs.lemmas.List.{length-map}
 use Rattle.std.proofs.lemmas.List.FromFn.{length-map-range_with_len, get_or-map-range_with_len}
 use Rattle.git_defs.specs.Vectors.{Vector, AllOfLength}
 use Rattle.git_ints.specs.Padded.{AreWithin}
-use Rattle.git_ints.specs.Gradings.{Degrees, IsMatrix, IsGrading}
+use Rattle.git_grading.specs.Gradings.{Degrees, IsMatrix, IsGrading}
 use Rattle.git_lines.specs.Lines.{RestOfText}
 use Rattle.git_lines.specs.Grammar.{Together, IsInteger}
 use Rattle.git_text.specs.declared.rows.Row.{Row}

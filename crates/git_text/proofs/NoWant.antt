@@ -3,7 +3,7 @@ use Rattle.std.proofs.Common.{refl, ◌≡◌, ℕ, zero, suc, ◌-◌, List, le
 use Rattle.std.specs.Prelude.{ℤ, pos}
 use Rattle.std.proofs.Math.IntN.{neg_ℤ}
 use Rattle.git_algebra.specs.Exponents.{Exponents}
-use Rattle.git_ints.specs.Gradings.{Degrees}
+use Rattle.git_grading.specs.Gradings.{Degrees}
 use Rattle.git_lines.specs.declared.fault.FormFault.{FormFault}
 use Rattle.git_lines.specs.Lines.{RestOfText}
 use Rattle.git_lines.specs.Reading.{◌>>=◌, lift, times, next_line, line_by, integer_token, no_token, no_line}
@@ -18,7 +18,7 @@ use Rattle.git_text.specs.declared.fault.InputFault.TheVariants.{Bad, NoMemory}
 use Rattle.git_text.specs.Faults.{form_bad, polynomial_bad, as_input}
 use Rattle.git_text.specs.Reading.{row_line, generator_line, homogeneous_by, form_by, next_by, ideal_line, end_line, sizes_at, rows_at, columns_at, matrix_at, generators_at, rest_at, nothing_after}
 use Rattle.git_text.specs.OneDegree.{apart}
-use Rattle.git_text.specs.Grammar.{InputValue}
+use Rattle.git_input.specs.Inputs.{InputValue}
 
 abbrev pub Placed : {A : Type 0} → Result A InputFault → Type 0
 Placed (Ok x) = Unit {0}

@@ -7,8 +7,8 @@ use Rattle.std.specs.declared.cmp.Ordering.{Ordering}
 use Rattle.std.specs.declared.cmp.Ordering.TheVariants.{Less, Equal, Greater}
 use Rattle.std.specs.Cmp.{ranks}
 use Rattle.std.specs.Cmp.Rules.{signed_items}
-use Rattle.git_defs.proofs.Members.{Member, member_contains, contains_member}
-use Rattle.git_ints.specs.Gradings.{Degrees}
+use Rattle.git_lemmas.proofs.Members.{Member, member_contains, contains_member}
+use Rattle.git_grading.specs.Gradings.{Degrees}
 use Rattle.git_algebra.specs.Exponents.{Exponents}
 use Rattle.git_algebra.specs.Order.{rank}
 use Rattle.git_algebra.specs.Sums.{Sum}
@@ -18,13 +18,10 @@ use Rattle.git_algebra.proofs.Ranks.{rank_injective}
 use Rattle.git_poly.specs.Degrees.{degree_under, HasMonomial, IsHomogeneous, AreApart}
 use Rattle.git_text.specs.OneDegree.{same_degree, first_apart, apart}
 use Rattle.git_text.specs.Laws.{AreApartAsRead}
+use Rattle.git_lemmas.proofs.Options.{yes_or_no, some_is}
 
 abbrev degree : Degrees → Exponents → List ℤ
 degree d a = degree_under d.k d.columns a
-
-yes_or_no : (b : Bool) → (b ≡ true) ⊎ (b ≡ false)
-yes_or_no true = inl refl
-yes_or_no false = inr refl
 
 same_is : (d : Degrees) (a b : Exponents) → same_degree d a b ≡ true → degree d a ≡ degree d b
 same_is d a b e = (signed_items (degree d a) (degree d b)).0 e
@@ -144,9 +141,6 @@ second_same d p a b c g h = by (nat_cmp (rank b) (rank c)) (ranks (rank b) (rank
     by Less l = absurd (h.apart (g.greatest c h.has l))
     by Equal l = rank_injective b c l
     by Greater l = absurd (g.apart (h.greatest b g.has l))
-
-some_is : {A : Type 0} (x y : A) → Some x ≡ Some y → x ≡ y
-some_is x y e = cc
 
 pair_same : (d : Degrees) (p : Polynomial) (x y : Exponents × Exponents) → AreApart d.k d.columns p x.0 x.1 → AreApart d.k d.columns p y.0 y.1 → x ≡ y
 pair_same d p x y g h =

@@ -10,7 +10,7 @@ use Rattle.std.proofs.lemmas.List.{length-map, get_or-map, get_or_past}
 use Rattle.std.proofs.lemmas.List.FromFn.{length-map-range_with_len, get_or-map-range_with_len}
 use Rattle.git_defs.specs.Vectors.{Vector, AllOfLength}
 use Rattle.git_ints.specs.Padded.{AreWithin}
-use Rattle.git_ints.specs.Gradings.{Degrees, IsGrading}
+use Rattle.git_grading.specs.Gradings.{Degrees, IsGrading}
 use Rattle.git_algebra.specs.Polynomials.{Polynomial}
 use Rattle.git_poly.specs.Degrees.{AreGradedBy, IsHomogeneous}
 use Rattle.git_polytext.specs.Printing.{polynomial_text}
@@ -21,8 +21,8 @@ use Rattle.git_lines.specs.Printing.{spaced}
 use Rattle.git_lines.specs.Grammar.{Together, IsInteger}
 use Rattle.git_lines.proofs.WordLemmas.{words_spaced}
 use Rattle.git_lines.proofs.NumberLemmas.{integer_is_read_back}
-use Rattle.git_text.specs.Grammar.{IsRow, IsGenerator, column_of, columns_of, IsMatrixText, InputValue, IsInputFront, IsInput}
-use Rattle.git_text.specs.Inputs.{AreGenerators}
+use Rattle.git_text.specs.Grammar.{IsRow, IsGenerator, column_of, columns_of, IsMatrixText, IsInputFront, IsInput}
+use Rattle.git_input.specs.Inputs.{InputValue, AreGenerators}
 use Rattle.git_text.specs.Writing.{row_of_columns, row_line_text, input_lines, input_text}
 use Rattle.git_text.proofs.WrittenLines.{inside_line, IsPlainWord, all_more, word_in_line, contents_back, are_words, spaced_inside, decimal_word, signed_word}
 

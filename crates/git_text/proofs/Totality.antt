@@ -1,13 +1,14 @@
 -- Each text has a reading: it is an input, or has a first fault.
 use Rattle.std.proofs.Common.{◌≡◌, ◌⊎◌, inl, inr, ℕ, List, Result, Ok, Err, refl}
 use Rattle.git_defs.specs.Vectors.{AllOfLength}
-use Rattle.git_ints.specs.Gradings.{Degrees}
+use Rattle.git_grading.specs.Gradings.{Degrees}
 use Rattle.git_lines.specs.Lines.{RestOfText}
 use Rattle.git_lines.specs.Reading.{◌>>=◌}
 use Rattle.git_text.specs.declared.fault.BadKind.{BadKind}
 use Rattle.git_text.specs.declared.fault.InputFault.{InputFault}
 use Rattle.git_text.specs.declared.fault.InputFault.TheVariants.{Bad, NoMemory}
-use Rattle.git_text.specs.Grammar.{InputValue, IsInput}
+use Rattle.git_input.specs.Inputs.{InputValue}
+use Rattle.git_text.specs.Grammar.{IsInput}
 use Rattle.git_text.specs.Reading.{Verdict, judged_by, matrix_at, rest_at, JudgesRead, ReadsGrading, ReadsFront, nothing_after, whole_text, Reads, IsFirstFault}
 use Rattle.git_text.specs.Reading.Verdict.{grades, low_rank, unpointed}
 use Rattle.git_text.proofs.Fronts.{matrix_lengths}

@@ -5,8 +5,9 @@ use Rattle.std.proofs.Math.IntN.{pos, negsuc}
 use Rattle.std.proofs.lemmas.Int.{ints}
 use Rattle.git_defs.specs.Vectors.{Vector, zero_vector, scale, plus, dot, combination, AllOfLength, HasRank, HasZeroSum}
 use Rattle.git_defs.specs.Cones.{InCone}
-use Rattle.git_defs.proofs.Integers.{mul_pos}
-use Rattle.git_defs.proofs.Members.{member_contains, OfLength, first_of_length, rest_of_length, all_of_length}
+use Rattle.git_lemmas.proofs.Integers.{mul_pos}
+use Rattle.git_lemmas.proofs.Members.{member_contains}
+use Rattle.git_defs.proofs.Lengths.{OfLength, first_of_length, rest_of_length, all_of_length}
 use Rattle.git_defs.proofs.Linear.{dot-plus, dot-scale, dot-zero, length-scale, length-combination, combination_beside}
 use Rattle.git_defs.proofs.Sums.{scale_none, zero-plus}
 use Rattle.git_geometry.specs.Generators.{Separated, CommonZero}
@@ -14,7 +15,7 @@ use Rattle.git_geometry.proofs.Farkas.{farkas}
 use Rattle.git_geometry.proofs.Independence.{chosen_member, chosen_of_length, no_common_zero}
 use Rattle.git_geometry.proofs.Ranks.{rank_or_zero}
 use Rattle.git_geometry.proofs.ZeroSums.{zero_sum_later, zero_sum_of_negative}
-use Rattle.git_ints.specs.Gradings.{Degrees}
+use Rattle.git_grading.specs.Gradings.{Degrees}
 use Rattle.git_text.specs.Reading.{Verdict, IsVerdict}
 use Rattle.git_text.specs.Reading.Verdict.{grades, low_rank, unpointed}
 

@@ -2,7 +2,7 @@
 use Rattle.std.proofs.Common.{◌≡◌, ℕ, ◌⊎◌, inl, inr, List, [], ◌∷◌, ◌++◌, Result, Ok, Err, MatchResult, IsErrOf, refl, sym, ap, ◌∙◌, subst, append_assoc}
 use Rattle.std.proofs.lemmas.List.{append-nil}
 use Rattle.std.specs.Prelude.{IfOk}
-use Rattle.git_ints.specs.Gradings.{Degrees}
+use Rattle.git_grading.specs.Gradings.{Degrees}
 use Rattle.git_lines.specs.declared.fault.FormFault.{FormFault}
 use Rattle.git_lines.specs.Lines.{RestOfText, contents, text_from}
 use Rattle.git_lines.specs.Reading.{◌>>=◌, no_line}
@@ -12,7 +12,8 @@ use Rattle.git_text.specs.declared.fault.BadKind.{BadKind}
 use Rattle.git_text.specs.declared.fault.InputFault.{InputFault}
 use Rattle.git_text.specs.declared.fault.InputFault.TheVariants.{Bad, NoMemory}
 use Rattle.git_text.specs.Faults.{form_bad, as_input, FitsUnlessFull}
-use Rattle.git_text.specs.Grammar.{InputValue, IsMatrixText, IsGenerator, IsInputFront, IsInput}
+use Rattle.git_input.specs.Inputs.{InputValue}
+use Rattle.git_text.specs.Grammar.{IsMatrixText, IsGenerator, IsInputFront, IsInput}
 use Rattle.git_text.specs.Reading.{rest_at, ReadsGrading, ReadsFront, nothing_after, whole_text, Reads, IsFirstFault}
 use Rattle.git_text.proofs.ExactText.{none_left, none_again}
 use Rattle.git_text.proofs.Fronts.{few_columns, gradings_same, grading_takes, grading_again}

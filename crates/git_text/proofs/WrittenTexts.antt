@@ -8,9 +8,9 @@ use Rattle.std.proofs.lemmas.List.FromFn.{map-range_with_len_more}
 use Rattle.git_defs.specs.Vectors.{Vector}
 use Rattle.git_lines.specs.Lines.{ended}
 use Rattle.git_lines.specs.Printing.{after_spaces}
-use Rattle.git_ints.specs.Gradings.{IsGrading}
-use Rattle.git_text.specs.Grammar.{InputValue, IsInput}
-use Rattle.git_text.specs.Inputs.{AreGenerators}
+use Rattle.git_grading.specs.Gradings.{IsGrading}
+use Rattle.git_input.specs.Inputs.{InputValue, AreGenerators}
+use Rattle.git_text.specs.Grammar.{IsInput}
 use Rattle.git_text.specs.Writing.{row_of_columns, row_line_text, input_text}
 use Rattle.git_text.proofs.ReadBackInputs.{input_back}
 

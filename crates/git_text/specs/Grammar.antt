@@ -3,9 +3,10 @@ use Rattle.std.specs.Prelude.{◌≡◌, ℕ, List, [], ◌∷◌, ◌++◌, len
 use Rattle.std.specs.List.{range_with_len}
 use Rattle.std.proofs.Math.IntN.{neg_ℤ}
 use Rattle.git_defs.specs.Vectors.{Vector, HasRank, HasZeroSum}
-use Rattle.git_ints.specs.Gradings.{Degrees}
+use Rattle.git_grading.specs.Gradings.{Degrees}
 use Rattle.git_algebra.specs.Polynomials.{Polynomial}
 use Rattle.git_poly.specs.Degrees.{IsHomogeneous}
+use Rattle.git_input.specs.Inputs.{InputValue}
 use Rattle.git_polytext.specs.Grammar.{IsPolynomialLine}
 use Rattle.git_lines.specs.Lines.{lines_of, content}
 use Rattle.git_lines.specs.Tokens.{words}
@@ -66,11 +67,6 @@ pub record IsMatrixText (front : List (List ℕ)) (d : Degrees) : Type 0 where
   pub pointed : HasZeroSum d.k d.columns → ⊥
 
 -- ---- the whole text
-
--- what contracts see of an input: the matrix, and the generators of the ideal
-pub record InputValue : Type 0 where
-  pub degrees : Degrees
-  pub generators : List Polynomial
 
 -- the line of a generator: a polynomial in the variables of the matrix, whose monomials have one degree
 pub record IsGenerator (d : Degrees) (line : List ℕ) (p : Polynomial) : Type 0 where

@@ -2,14 +2,14 @@
 use Rattle.std.specs.Prelude.{◌≡◌, ◌≢◌, ◌⊎◌, ◌↔◌, ℕ, ◌+◌, ◌-◌, ◌≤◌, List, [], length, take, slice_index_or, Ok, Option, Some, None}
 use Rattle.git_algebra.specs.Exponents.{Exponents}
 use Rattle.git_algebra.specs.Polynomials.{Polynomial}
-use Rattle.git_ints.specs.Gradings.{Degrees, IsGrading}
+use Rattle.git_grading.specs.Gradings.{Degrees, IsGrading}
 use Rattle.git_poly.specs.Degrees.{IsHomogeneous, AreApart}
 use Rattle.git_text.specs.declared.fault.BadKind.{BadKind}
 use Rattle.git_text.specs.declared.fault.InputFault.TheVariants.{Bad}
 use Rattle.git_lines.specs.Lines.{IsColumnOf}
 use Rattle.git_text.specs.declared.fault.BadKind.TheVariants.{Truncated, Trailing}
-use Rattle.git_text.specs.Grammar.{InputValue, IsInput, contents_of}
-use Rattle.git_text.specs.Inputs.{AreGenerators}
+use Rattle.git_input.specs.Inputs.{InputValue, AreGenerators}
+use Rattle.git_text.specs.Grammar.{IsInput, contents_of}
 use Rattle.git_text.specs.Writing.{input_text}
 use Rattle.git_text.specs.OneDegree.{apart}
 use Rattle.git_text.specs.Reading.{Reads, IsFirstFault}

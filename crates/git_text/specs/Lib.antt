@@ -3,6 +3,5 @@ pub mod Faults
 pub mod OneDegree
 pub mod Reading
 pub mod Views
-pub mod Inputs
 pub mod Laws
 pub mod Writing

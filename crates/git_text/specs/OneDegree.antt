@@ -3,7 +3,7 @@ use Rattle.std.specs.Prelude.{[], ◌∷◌, Bool, if◌then◌else◌, Option, 
 use Rattle.std.specs.Option.{option_map}
 use Rattle.std.specs.Cmp.Lexicographic.{pointwise}
 use Rattle.std.specs.Ordering.{int_eq}
-use Rattle.git_ints.specs.Gradings.{Degrees}
+use Rattle.git_grading.specs.Gradings.{Degrees}
 use Rattle.git_algebra.specs.Exponents.{Exponents}
 use Rattle.git_algebra.specs.Sums.{Sum}
 use Rattle.git_poly.specs.Degrees.{degree_under}

@@ -2,7 +2,7 @@
 use Rattle.std.specs.Prelude.{◌≡◌, ℕ, ◌-◌, List, length, codes, pos, Option, Some, None, Result, Ok, Err, unsigned_abs}
 use Rattle.std.proofs.Math.IntN.{neg_ℤ}
 use Rattle.git_defs.specs.Vectors.{Vector, HasRank, HasZeroSum}
-use Rattle.git_ints.specs.Gradings.{Degrees}
+use Rattle.git_grading.specs.Gradings.{Degrees}
 use Rattle.git_lines.specs.declared.fault.FormFault.{FormFault}
 use Rattle.git_lines.specs.declared.fault.FormKind.TheVariants as form
 use Rattle.git_lines.specs.Lines.{RestOfText, lines_of}
@@ -17,7 +17,8 @@ use Rattle.git_algebra.specs.Polynomials.{Polynomial}
 use Rattle.git_polytext.specs.Reading.{polynomial_line}
 use Rattle.git_text.specs.Faults.{form_bad, polynomial_bad, as_input}
 use Rattle.git_text.specs.OneDegree.{apart}
-use Rattle.git_text.specs.Grammar.{columns_of, InputValue}
+use Rattle.git_text.specs.Grammar.{columns_of}
+use Rattle.git_input.specs.Inputs.{InputValue}
 
 -- ---- a line, by its number and its bytes
 

@@ -6,7 +6,7 @@ use Rattle.git_lines.specs.Lines.{ended}
 use Rattle.git_lines.specs.Printing.{spaced}
 use Rattle.git_defs.specs.Vectors.{Vector}
 use Rattle.git_polytext.specs.Printing.{polynomial_text}
-use Rattle.git_text.specs.Grammar.{InputValue}
+use Rattle.git_input.specs.Inputs.{InputValue}
 
 -- the row at place i of the matrix with these columns
 abbrev pub row_of_columns : List Vector → ℕ → Vector

@@ -8,7 +8,7 @@ ghost use Rattle.git_text.specs.Reading.{next_by, generators_at};
 
 use crate::fault::{BadKind, InputFault};
 use crate::fields::ideal;
-use git_ints::Grading;
+use git_grading::Grading;
 use git_lines::{Line, Lines};
 use git_poly::Poly;
 use git_polytext::read_polynomial;

@@ -3,39 +3,18 @@ ghost use Rattle.std.specs.Prelude.{◌≡◌, ◌<◌, ◌≤◌, ◌-◌, ◌^
 ghost use Rattle.git_lines.specs.Views.{rest_of_text};
 ghost use Rattle.git_text.specs.declared.fault.BadKind.{BadKind};
 ghost use Rattle.git_text.specs.Faults.{GivesUnlessFull, FitsUnlessFull};
-ghost use Rattle.git_text.specs.Grammar.{InputValue, IsInput};
+ghost use Rattle.git_input.specs.Inputs.{InputValue};
+ghost use Rattle.git_text.specs.Grammar.{IsInput};
 ghost use Rattle.git_text.specs.Reading.{rest_at, ReadsFront, Reads, IsFirstFault, variables_in};
 
 use crate::fault::InputFault;
 use crate::fields::{end, header_and_sizes};
 use crate::generators::generators;
 use crate::matrix::grading;
-use git_ints::Grading;
+use git_grading::Grading;
+use git_input::Input;
 use git_lines::Lines;
-use git_poly::Poly;
 use std::alloc::Global;
-use std::marker::Model;
-
-/// A grading and the generators of an ideal: at most 64 polynomials in the grading's variables, with exponents of at most 64,
-/// each homogeneous. The polynomial 0 may be among them.
-#[derive(Drop)]
-pub struct Input {
-    pub grading: Grading,
-    pub generators: Vec<Poly>,
-}
-
-impl Model for Input {
-    ghost use Rattle.git_text.specs.Grammar.{InputValue};
-    ghost use Rattle.git_text.specs.Inputs.{AreGenerators, input_code};
-
-    ghost Value = { InputValue };
-
-    ghost coded = { input_code };
-
-    ghost view = { λ x. record { degrees = x.grading; generators = x.generators.items } };
-
-    ghost invariant = { λ x. AreGenerators x.grading x.generators.items };
-}
 
 /// The input with this grading, of the lines from the number of generators to `end`.
 #[tactic(auto, unfolding(crate::specs::Reading::rest_at))]

@@ -14,8 +14,7 @@ mod rows;
 mod writing;
 
 pub use fault::{BadKind, InputFault};
-pub use git_polytext::print_poly;
-pub use input::{Input, announced_variables, read_input};
+pub use input::{announced_variables, read_input};
 pub use laws::{
     faults_lie_in_the_text, input_or_first_fault, inputs_are_graded, inputs_have_no_fault,
     monomials_apart_are_found, one_first_fault, one_input, reading_is_the_grammar,

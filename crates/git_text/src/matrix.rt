@@ -1,6 +1,6 @@
 //! The lines up to the last row of the matrix.
 ghost use Rattle.std.specs.Prelude.{◌≡◌, ◌≤◌, ◌-◌, IfOk};
-ghost use Rattle.git_ints.specs.Gradings.{IsMatrix};
+ghost use Rattle.git_grading.specs.Gradings.{IsMatrix};
 ghost use Rattle.git_lines.specs.Views.{rest_of_text};
 ghost use Rattle.git_text.specs.Faults.{FitsUnlessFull, GivesUnlessFull};
 ghost use Rattle.git_text.specs.Reading.{columns_at, JudgesMatrix, ReadsGrading};
@@ -9,7 +9,8 @@ use crate::columns::columns;
 use crate::fault::{BadKind, InputFault};
 use crate::fields::header_and_sizes;
 use crate::rows::matrix_rows;
-use git_ints::{Grading, GradingFault, IVec};
+use git_grading::{Grading, GradingFault};
+use git_ints::IVec;
 use git_lines::Lines;
 use std::alloc::Global;
 

@@ -9,9 +9,10 @@ ghost use Rattle.git_polytext.specs.Printing.{polynomial_text};
 ghost use Rattle.git_text.specs.Grammar.{IsInput};
 ghost use Rattle.git_text.specs.Writing.{row_of_columns, row_line_text, input_text};
 
-use crate::input::Input;
 use git_base::NoMemory;
-use git_ints::{Grading, IVec};
+use git_grading::Grading;
+use git_input::Input;
+use git_ints::IVec;
 use git_poly::Poly;
 use git_polytext::append_poly;
 use std::alloc::{AllocError, Global};

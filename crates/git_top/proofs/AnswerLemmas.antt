@@ -7,12 +7,14 @@ use Rattle.std.specs.Prelude.{codes, Bool, true, false}
 use Rattle.git_base.specs.declared.status.Status.{Status}
 use Rattle.git_base.specs.declared.status.Status.TheVariants.{Usage, BadInput, NotBuilt, Done}
 use Rattle.git_defs.specs.Vectors.{Vector}
-use Rattle.git_defs.specs.Listings.{Listing, IsRankTwoListing}
-use Rattle.git_ints.specs.Gradings.{Degrees, IsGrading}
+use Rattle.git_listing.specs.Listings.{Listing}
+use Rattle.git_plane.specs.RankTwo.{IsRankTwoListing}
+use Rattle.git_grading.specs.Gradings.{Degrees, IsGrading}
 use Rattle.git_text.specs.declared.fault.BadKind.{BadKind}
 use Rattle.git_text.specs.declared.fault.InputFault.{InputFault}
 use Rattle.git_text.specs.declared.fault.InputFault.TheVariants.{Bad, NoMemory}
-use Rattle.git_text.specs.Grammar.{InputValue, IsInput}
+use Rattle.git_input.specs.Inputs.{InputValue}
+use Rattle.git_text.specs.Grammar.{IsInput}
 use Rattle.git_text.specs.Reading.{IsFirstFault, variables_in}
 use Rattle.git_text.proofs.WholeTexts.{one_input, one_first_fault}
 use Rattle.git_text.proofs.Totality.{input_or_fault}

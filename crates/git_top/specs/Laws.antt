@@ -2,9 +2,11 @@
 use Rattle.std.specs.Prelude.{◌≡◌, ℕ, ◌≤◌, List, [], length}
 use Rattle.git_base.specs.declared.status.Status.{Status}
 use Rattle.git_base.specs.declared.status.Status.TheVariants.{Done}
-use Rattle.git_defs.specs.Listings.{Listing, IsRankTwoListing}
-use Rattle.git_ints.specs.Gradings.{Degrees}
-use Rattle.git_text.specs.Grammar.{InputValue, IsInput}
+use Rattle.git_listing.specs.Listings.{Listing}
+use Rattle.git_plane.specs.RankTwo.{IsRankTwoListing}
+use Rattle.git_grading.specs.Gradings.{Degrees}
+use Rattle.git_input.specs.Inputs.{InputValue}
+use Rattle.git_text.specs.Grammar.{IsInput}
 use Rattle.git_top.specs.Cases.{HasOne, HasSome}
 use Rattle.git_top.specs.Run.{answer_to, fan_words, input_limit}
 

@@ -1,5 +1,6 @@
 use Rattle.git_defs.proofs.Closed.{cone_has}
-use Rattle.git_defs.proofs.Members.{all_of_length, contains_member}
+use Rattle.git_defs.proofs.Lengths.{all_of_length}
+use Rattle.git_lemmas.proofs.Members.{contains_member}
 use Rattle.git_defs.proofs.cone_generators.Goals as goal
 
 pub returns : goal.returns

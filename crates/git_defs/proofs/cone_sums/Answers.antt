@@ -1,5 +1,5 @@
 use Rattle.git_defs.proofs.Sums.{cone_plus}
-use Rattle.git_defs.proofs.Members.{all_of_length}
+use Rattle.git_defs.proofs.Lengths.{all_of_length}
 use Rattle.git_defs.proofs.cone_sums.Goals as goal
 
 pub returns : goal.returns

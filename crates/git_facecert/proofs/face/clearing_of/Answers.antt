@@ -5,7 +5,7 @@ use Rattle.git_algebra.specs.Sums.{unit}
 use Rattle.git_algebra.specs.Operations.{one_polynomial, minus, term_of}
 use Rattle.git_ideals.specs.Ideals.{clearing, monomial, y}
 use Rattle.git_ideals.specs.Faces.{face_monomial}
-use Rattle.git_poly.proofs.TermLists.{some_unless_none}
+use Rattle.git_lemmas.proofs.Options.{some_unless_none}
 use Rattle.git_facecert.proofs.FacePowers.{clearing_small, power_one}
 use Rattle.git_facecert.proofs.face.clearing_of.Goals as goal
 

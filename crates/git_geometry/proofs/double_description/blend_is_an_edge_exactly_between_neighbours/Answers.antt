@@ -1,4 +1,4 @@
-use Rattle.git_defs.proofs.Members.{contains_member}
+use Rattle.git_lemmas.proofs.Members.{contains_member}
 use Rattle.git_geometry.proofs.Extreme.{blend_exactly}
 use Rattle.git_geometry.proofs.double_description.blend_is_an_edge_exactly_between_neighbours.Goals as goal
 

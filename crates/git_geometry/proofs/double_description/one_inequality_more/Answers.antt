@@ -1,4 +1,5 @@
-use Rattle.git_defs.proofs.Members.{all_of_length, member_contains}
+use Rattle.git_defs.proofs.Lengths.{all_of_length}
+use Rattle.git_lemmas.proofs.Members.{member_contains}
 use Rattle.git_geometry.proofs.Blends.{one_more}
 use Rattle.git_geometry.proofs.double_description.one_inequality_more.Goals as goal
 

@@ -1,4 +1,4 @@
-use Rattle.git_defs.proofs.Members.{all_of_length}
+use Rattle.git_defs.proofs.Lengths.{all_of_length}
 use Rattle.git_geometry.proofs.Minkowski.{weyl}
 use Rattle.git_geometry.proofs.duality.cone_is_cut_out.Goals as goal
 

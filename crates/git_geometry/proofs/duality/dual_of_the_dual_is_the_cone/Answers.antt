@@ -1,4 +1,4 @@
-use Rattle.git_defs.proofs.Members.{all_of_length}
+use Rattle.git_defs.proofs.Lengths.{all_of_length}
 use Rattle.git_geometry.proofs.Facets.{dual_of_dual}
 use Rattle.git_geometry.proofs.duality.dual_of_the_dual_is_the_cone.Goals as goal
 

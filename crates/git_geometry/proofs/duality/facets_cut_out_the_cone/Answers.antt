@@ -1,4 +1,4 @@
-use Rattle.git_defs.proofs.Members.{all_of_length}
+use Rattle.git_defs.proofs.Lengths.{all_of_length}
 use Rattle.git_geometry.proofs.Facets.{facets_same}
 use Rattle.git_geometry.proofs.duality.facets_cut_out_the_cone.Goals as goal
 

@@ -1,4 +1,4 @@
-use Rattle.git_defs.proofs.Members.{all_of_length}
+use Rattle.git_defs.proofs.Lengths.{all_of_length}
 use Rattle.git_defs.specs.Cones.{Cut, InCone}
 use Rattle.git_geometry.proofs.Minkowski.{generates_of_same, normals_cut}
 use Rattle.git_geometry.proofs.Rays.{same_back}

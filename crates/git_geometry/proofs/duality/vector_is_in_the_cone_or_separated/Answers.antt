@@ -1,4 +1,4 @@
-use Rattle.git_defs.proofs.Members.{all_of_length}
+use Rattle.git_defs.proofs.Lengths.{all_of_length}
 use Rattle.git_geometry.proofs.Farkas.{farkas}
 use Rattle.git_geometry.proofs.duality.vector_is_in_the_cone_or_separated.Goals as goal
 

@@ -1,5 +1,5 @@
 use Rattle.git_defs.proofs.Closed.{cone_closed, cone_has}
-use Rattle.git_defs.proofs.Members.{all_of_length}
+use Rattle.git_defs.proofs.Lengths.{all_of_length}
 use Rattle.git_defs.specs.Cones.{InCone}
 use Rattle.git_geometry.proofs.Rays.{ray_of_generator}
 use Rattle.git_geometry.proofs.extreme_vectors.edge_lies_on_a_generator.Goals as goal

@@ -1,4 +1,4 @@
-use Rattle.git_defs.proofs.Members.{all_of_length}
+use Rattle.git_defs.proofs.Lengths.{all_of_length}
 use Rattle.git_geometry.proofs.Facets.{rays_rank}
 use Rattle.git_geometry.proofs.extreme_vectors.extreme_vectors_have_full_rank.Goals as goal
 

@@ -1,4 +1,5 @@
-use Rattle.git_defs.proofs.Members.{all_member, all_of_length}
+use Rattle.git_lemmas.proofs.Members.{all_member}
+use Rattle.git_defs.proofs.Lengths.{all_of_length}
 use Rattle.git_defs.specs.Vectors.{IsPrimitive}
 use Rattle.git_geometry.proofs.Facets.{facets_by_dropping}
 use Rattle.git_geometry.proofs.extreme_vectors.facets_are_the_undominated_inequalities.Goals as goal

@@ -1,4 +1,4 @@
-use Rattle.git_defs.proofs.Members.{all_of_length}
+use Rattle.git_defs.proofs.Lengths.{all_of_length}
 use Rattle.git_geometry.proofs.Extreme.{edge_where}
 use Rattle.git_geometry.proofs.Minkowski.{generates_of_same}
 use Rattle.git_geometry.proofs.extreme_vectors.generator_is_an_edge_exactly_where_alone.Goals as goal

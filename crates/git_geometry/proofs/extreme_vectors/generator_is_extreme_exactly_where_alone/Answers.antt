@@ -1,4 +1,5 @@
-use Rattle.git_defs.proofs.Members.{all_member, all_of_length}
+use Rattle.git_lemmas.proofs.Members.{all_member}
+use Rattle.git_defs.proofs.Lengths.{all_of_length}
 use Rattle.git_defs.specs.Vectors.{IsPrimitive}
 use Rattle.git_geometry.proofs.Extreme.{extreme_where}
 use Rattle.git_geometry.proofs.Minkowski.{generates_of_same}

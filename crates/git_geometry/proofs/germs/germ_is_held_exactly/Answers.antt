@@ -1,4 +1,4 @@
-use Rattle.git_defs.proofs.Members.{all_of_length}
+use Rattle.git_defs.proofs.Lengths.{all_of_length}
 use Rattle.git_geometry.proofs.Signs.{holds_of_signs, signs_of_holds}
 use Rattle.git_geometry.proofs.germs.germ_is_held_exactly.Goals as goal
 

@@ -1,5 +1,6 @@
 use Rattle.std.proofs.Common.{◌≢◌}
-use Rattle.git_defs.proofs.Members.{all_member, all_of_length}
+use Rattle.git_lemmas.proofs.Members.{all_member}
+use Rattle.git_defs.proofs.Lengths.{all_of_length}
 use Rattle.git_defs.specs.Vectors.{Vector, zero_vector}
 use Rattle.git_geometry.proofs.Inside.{inside_where}
 use Rattle.git_geometry.proofs.Minkowski.{generates_of_same}

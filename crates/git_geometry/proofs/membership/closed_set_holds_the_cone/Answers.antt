@@ -1,5 +1,5 @@
 use Rattle.git_defs.proofs.Closed.{closed_cone}
-use Rattle.git_defs.proofs.Members.{all_member}
+use Rattle.git_lemmas.proofs.Members.{all_member}
 use Rattle.git_geometry.proofs.membership.closed_set_holds_the_cone.Goals as goal
 
 pub returns : goal.returns

@@ -1,5 +1,6 @@
 use Rattle.git_defs.proofs.Closed.{closed_cone, cone_closed}
-use Rattle.git_defs.proofs.Members.{all_member, all_of_length}
+use Rattle.git_lemmas.proofs.Members.{all_member}
+use Rattle.git_defs.proofs.Lengths.{all_of_length}
 use Rattle.git_defs.specs.Cones.{InCone}
 use Rattle.git_geometry.proofs.membership.cone_lies_in_the_cone_of_its_generators.Goals as goal
 

@@ -2,7 +2,8 @@ use Rattle.std.proofs.Common.{◌≡◌, ◌+◌, ◌*◌, ◌^◌, ◌≤◌, g
 use Rattle.std.specs.Int.{w128}
 use Rattle.std.proofs.Math.IntN.{ℤ, pos, ◌+ℤ◌, ◌*ℤ◌}
 use Rattle.std.specs.Int.RustNames.{unsigned_abs}
-use Rattle.git_ints.proofs.Sizes.{kept, kept_within, kept_term, abs_add_le}
+use Rattle.git_ints.proofs.Sizes.{kept, kept_within, kept_term}
+use Rattle.git_lemmas.proofs.Integers.{abs_add}
 use Rattle.git_ints.proofs.Dots.{dot_more}
 use Rattle.git_ints.proofs.vector.inner_product.Goals as goal
 
@@ -28,7 +29,7 @@ loop-i-preserved c =
     let p_is : to_z w128 (of_z w128 c.product.result) ≡ c.product.result = kept c.product.result (omega (arith, small, e)) in
     let s_is : c.sum-total.result ≡ to_z w128 c.loop-i.total-bits +ℤ (x *ℤ y) = c.sum-total.ensures ∙ ap (λ (z : ℤ). to_z w128 c.loop-i.total-bits +ℤ z) (p_is ∙ c.product.ensures.value ∙ t.is) in
     let bound : unsigned_abs c.sum-total.result ≤ i * 2 ^ 120 + 2 ^ 120 =
-    subst (λ (z : ℤ). unsigned_abs z ≤ i * 2 ^ 120 + 2 ^ 120) (sym (c.sum-total.ensures ∙ ap (λ (z : ℤ). to_z w128 c.loop-i.total-bits +ℤ z) p_is)) (abs_add_le (to_z w128 c.loop-i.total-bits) c.product.result (i * 2 ^ 120) (2 ^ 120) c.loop-i.invariant.within small) in
+    subst (λ (z : ℤ). unsigned_abs z ≤ i * 2 ^ 120 + 2 ^ 120) (sym (c.sum-total.ensures ∙ ap (λ (z : ℤ). to_z w128 c.loop-i.total-bits +ℤ z) p_is)) (abs_add (to_z w128 c.loop-i.total-bits) c.product.result (i * 2 ^ 120) (2 ^ 120) c.loop-i.invariant.within small) in
     let is = kept c.sum-total.result (omega (arith, bound, f)) in
     record {
       value = is ∙ s_is ∙ ap (λ (z : ℤ). z +ℤ (x *ℤ y)) c.loop-i.invariant.value ∙ sym (dot_more c.args.a.now c.args.b.now i (omega arith) (omega arith));

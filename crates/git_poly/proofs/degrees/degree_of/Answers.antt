@@ -5,7 +5,7 @@ use Rattle.std.proofs.lemmas.Int.{ints}
 use Rattle.std.specs.Prelude.{map, pos}
 use Rattle.std.proofs.Math.IntN.{ℤ}
 use Rattle.git_defs.specs.Vectors.{plus, scale}
-use Rattle.git_defs.proofs.Members.{all_of_length}
+use Rattle.git_defs.proofs.Lengths.{all_of_length}
 use Rattle.git_defs.proofs.Linear.{length-combination}
 use Rattle.git_defs.proofs.Sums.{scale-one}
 use Rattle.git_ints.specs.Padded.{AreWithin}

@@ -5,7 +5,8 @@ use Rattle.git_algebra.specs.Exponents.{Exponents, times}
 use Rattle.git_algebra.specs.Sums.{Sum, shift}
 use Rattle.git_algebra.proofs.Monomials.{degree-times}
 use Rattle.git_poly.specs.Terms.{sum_of, IsForm}
-use Rattle.git_poly.proofs.TermLists.{sum_of-append, one_more_taken, all_taken, degree_within, some_unless_none}
+use Rattle.git_poly.proofs.TermLists.{sum_of-append, one_more_taken, all_taken, degree_within}
+use Rattle.git_lemmas.proofs.Options.{some_unless_none}
 use Rattle.git_poly.proofs.Shifting.{shift_reduced, shift_reduced-append, shifted_form}
 use Rattle.git_poly.proofs.terms.shifted.Goals as goal
 

@@ -1,5 +1,5 @@
 use Rattle.std.proofs.Common.{◌≤◌, length, subst}
-use Rattle.git_ints.specs.Gradings.{Degrees}
+use Rattle.git_grading.specs.Gradings.{Degrees}
 use Rattle.git_text.proofs.GeneratorLines.{generators_read}
 use Rattle.git_text.proofs.input.rest.Goals as goal
 

@@ -1,6 +1,6 @@
 use Rattle.std.proofs.Common.{◌≡◌, length, ◌∙◌, ap, sym, subst, List, All, arith}
 use Rattle.git_defs.specs.Vectors.{Vector}
-use Rattle.git_ints.specs.Gradings.{IsMatrix}
+use Rattle.git_grading.specs.Gradings.{IsMatrix}
 use Rattle.git_text.specs.Grammar.{columns_of}
 use Rattle.git_text.specs.Views.{row_of, rows_of}
 use Rattle.git_text.specs.declared.rows.Row.{Row}

@@ -1,5 +1,4 @@
-use Rattle.std.proofs.Common.{sym, ◌∙◌, ap}
-use Rattle.std.proofs.Common.{Some}
+use Rattle.std.proofs.Common.{sym, ◌∙◌, ap, Some}
 use Rattle.git_ints.proofs.Built.{unit_at, unit_front}
 use Rattle.git_ints.proofs.vector.IVec.unit.Goals as goal
 

@@ -2,7 +2,7 @@ use Rattle.std.proofs.Common.{arith, subst, Option, ◌≡◌}
 use Rattle.std.specs.Prelude.{IfSome}
 use Rattle.git_algebra.specs.Exponents.{Exponents, times}
 use Rattle.git_algebra.proofs.Monomials.{degree-times}
-use Rattle.git_poly.proofs.TermLists.{some_unless_none}
+use Rattle.git_lemmas.proofs.Options.{some_unless_none}
 use Rattle.git_reduce.proofs.TermMaps.{one_multiplied, multiplied_whole, degree_at}
 use Rattle.git_reduce.proofs.dividend.Dividend.minus.Goals as goal
 

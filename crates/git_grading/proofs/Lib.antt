@@ -1,0 +1,5 @@
+pub mod Sizes
+pub mod Walks
+pub mod Tables
+pub mod OneSided
+pub mod Judged

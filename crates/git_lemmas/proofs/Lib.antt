@@ -1,0 +1,5 @@
+pub mod Integers
+pub mod Divisions
+pub mod Members
+pub mod Options
+pub mod Sorting
