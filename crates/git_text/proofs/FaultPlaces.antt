@@ -36,7 +36,7 @@ use Rattle.git_text.specs.Reading.Verdict.{grades, low_rank, unpointed}
 -- ---- what a line's reader gives
 
 -- each fault lies in the line with this number and so many bytes, or one past its end
-abbrev OfLine : {A : Type 0} → ℕ → ℕ → Result A InputFault → Type 0
+abbrev pub OfLine : {A : Type 0} → ℕ → ℕ → Result A InputFault → Type 0
 OfLine line size (Ok x) = Unit {0}
 OfLine line size (Err (Bad l c k)) = (l ≡ line) × IsColumnOf size c
 OfLine line size (Err NoMemory) = ⊥
@@ -66,7 +66,7 @@ words_left line text = rest_is_left Words line (length text) 1 text (record { fr
 abbrev nothing : {A : Type 0} → A → Type 0
 nothing x = Unit {0}
 
-header_of_line : (line : ℕ) (text : List ℕ) → OfLine line (length text) (as_input (header_line line text))
+pub header_of_line : (line : ℕ) (text : List ℕ) → OfLine line (length text) (as_input (header_line line text))
 unfolding header_line
 header_of_line line text = by (header_words line text)
   where
@@ -74,7 +74,7 @@ header_of_line line text = by (header_words line text)
     by (Ok x) = tt
     by (Err f) = (refl, first_column (length text))
 
-sizes_of_line : (line : ℕ) (text : List ℕ) → OfLine line (length text) (as_input (sizes_line line text))
+pub sizes_of_line : (line : ℕ) (text : List ℕ) → OfLine line (length text) (as_input (sizes_line line text))
 unfolding sizes_line
 sizes_of_line line text =
     let size = length text in
@@ -84,7 +84,7 @@ sizes_of_line line text =
     in_line_then line size (λ (q : ℤ × RestOfLine). IsLeftOf line size q.1) nothing (integer_token (pos 1) (pos 16) k.1) _ (integer_in_line line size (pos 1) (pos 16) k.1 hk) (λ r hr.
     in_line_then line size nothing nothing (no_token r.1) _ (no_token_in_line line size r.1 hr) (λ b hb. tt)))))
 
-row_of_line : (r line : ℕ) (text : List ℕ) → OfLine line (length text) (row_line r line text)
+pub row_of_line : (r line : ℕ) (text : List ℕ) → OfLine line (length text) (row_line r line text)
 unfolding row_line
 row_of_line r line text =
     let size = length text in
@@ -99,7 +99,7 @@ row_of_line r line text =
     by (Err f) h = h
     by (Ok e) h = of_line_then line (length text) (as_input (no_token e.1)) _ (of_line_form line (length text) nothing (no_token e.1) (no_token_in_line line (length text) e.1 h)) (λ b. tt)
 
-ideal_of_line : (line : ℕ) (text : List ℕ) → OfLine line (length text) (as_input (ideal_line line text))
+pub ideal_of_line : (line : ℕ) (text : List ℕ) → OfLine line (length text) (as_input (ideal_line line text))
 unfolding ideal_line
 ideal_of_line line text =
     let size = length text in
@@ -108,14 +108,14 @@ ideal_of_line line text =
     in_line_then line size (λ (q : ℤ × RestOfLine). IsLeftOf line size q.1) nothing (integer_token (pos 0) (pos 64) a) _ (integer_in_line line size (pos 0) (pos 64) a ha) (λ m hm.
     in_line_then line size nothing nothing (no_token m.1) _ (no_token_in_line line size m.1 hm) (λ b hb. tt))))
 
-end_of_line : (line : ℕ) (text : List ℕ) → OfLine line (length text) (as_input (end_line line text))
+pub end_of_line : (line : ℕ) (text : List ℕ) → OfLine line (length text) (as_input (end_line line text))
 unfolding end_line
 end_of_line line text =
     let size = length text in
     of_line_form line size nothing (end_line line text)
     (in_line_then line size (IsLeftOf line size) nothing (word_token _ (rest_of_line line text)) _ (word_in_line line size _ (rest_of_line line text) (words_left line text)) (λ a ha. no_token_in_line line size a ha))
 
-generator_of_line : (d : Degrees) (before line : ℕ) (text : List ℕ) → OfLine line (length text) (generator_line d before line text)
+pub generator_of_line : (d : Degrees) (before line : ℕ) (text : List ℕ) → OfLine line (length text) (generator_line d before line text)
 unfolding generator_line
 generator_of_line d before line text =
     of_line_then line (length text) (lift polynomial_bad (polynomial_line (length d.columns) line text)) _ (of_line_polynomial line (length text) (polynomial_line (length d.columns) line text) (line_tells (length d.columns) line text))
@@ -134,7 +134,7 @@ pub record AtLine (lines : List (List ℕ)) (s : RestOfText) : Type 0 where
   pub are : contents s ≡ drop (s.line - 1) lines
 
 -- each fault lies in the text, at this line or later; and what is left after a value is later
-abbrev Lies : {A : Type 0} → List (List ℕ) → ℕ → Result (A × RestOfText) InputFault → Type 0
+abbrev pub Lies : {A : Type 0} → List (List ℕ) → ℕ → Result (A × RestOfText) InputFault → Type 0
 Lies lines low (Ok p) = AtLine lines p.1 × (low ≤ p.1.line)
 Lies lines low (Err (Bad l c k)) = IsPlaceIn lines l c × (low ≤ l)
 Lies lines low (Err NoMemory) = ⊥
@@ -151,12 +151,12 @@ lies_then lines low (Err (Bad l c kind)) f h k = h
 lies_then lines low (Err NoMemory) f h k = h
 
 -- so it is, and a line at least was read of a value
-abbrev LiesOn : {A : Type 0} → List (List ℕ) → ℕ → Result (A × RestOfText) InputFault → Type 0
+abbrev pub LiesOn : {A : Type 0} → List (List ℕ) → ℕ → Result (A × RestOfText) InputFault → Type 0
 LiesOn lines low (Ok p) = AtLine lines p.1 × (low + 1 ≤ p.1.line)
 LiesOn lines low (Err (Bad l c k)) = IsPlaceIn lines l c × (low ≤ l)
 LiesOn lines low (Err NoMemory) = ⊥
 
-lies_on : {A : Type 0} (lines : List (List ℕ)) (low : ℕ) (r : Result (A × RestOfText) InputFault) → LiesOn lines low r → Lies lines low r
+pub lies_on : {A : Type 0} (lines : List (List ℕ)) (low : ℕ) (r : Result (A × RestOfText) InputFault) → LiesOn lines low r → Lies lines low r
 lies_on lines low (Ok p) h = let b = h.1 in (h.0, omega (arith, b))
 lies_on lines low (Err (Bad l c k)) h = h
 lies_on lines low (Err NoMemory) h = h
@@ -179,7 +179,7 @@ lies_on_then lines low (Err (Bad l c kind)) f h k = h
 lies_on_then lines low (Err NoMemory) f h k = h
 
 -- the line at a place where something is left
-some_line : (lines : List (List ℕ)) (line : ℕ) (l : List ℕ) (ls : List (List ℕ)) → 1 ≤ line → l ∷ ls ≡ drop (line - 1) lines → (line ≤ length lines) × (l ≡ get_or lines (line - 1) []) × (ls ≡ drop line lines)
+pub some_line : (lines : List (List ℕ)) (line : ℕ) (l : List ℕ) (ls : List (List ℕ)) → 1 ≤ line → l ∷ ls ≡ drop (line - 1) lines → (line ≤ length lines) × (l ≡ get_or lines (line - 1) []) × (ls ≡ drop line lines)
 some_line lines line l ls some e = by (cases_lt (line - 1) (length lines))
   where
     by : (line - 1 < length lines) ⊎ (length lines ≤ line - 1) → (line ≤ length lines) × (l ≡ get_or lines (line - 1) []) × (ls ≡ drop line lines)
@@ -216,18 +216,18 @@ next_lies_on {A} lines read each s at = by s.lines refl
     by [] e = (record { some_line = at.some; few_lines = at.few; inside = first_column _ }, omega arith)
     by (l ∷ ls) e = of l ls (read s.line (content l)) (ap (map content) (sym e) ∙ at.are) (each s.line (content l))
 
-next_lies : {A : Type 0} (lines : List (List ℕ)) (read : ℕ → List ℕ → Result A InputFault) → ((n : ℕ) (l : List ℕ) → OfLine n (length l) (read n l)) → (s : RestOfText) → AtLine lines s
+pub next_lies : {A : Type 0} (lines : List (List ℕ)) (read : ℕ → List ℕ → Result A InputFault) → ((n : ℕ) (l : List ℕ) → OfLine n (length l) (read n l)) → (s : RestOfText) → AtLine lines s
     → Lies lines s.line (next_by read s)
 next_lies lines read each s at = lies_on lines s.line (next_by read s) (next_lies_on lines read each s at)
 
-times_lie : {A : Type 0} (lines : List (List ℕ)) (step : RestOfText → Result (A × RestOfText) InputFault) → ((s : RestOfText) → AtLine lines s → Lies lines s.line (step s)) → (n : ℕ) (s : RestOfText)
+pub times_lie : {A : Type 0} (lines : List (List ℕ)) (step : RestOfText → Result (A × RestOfText) InputFault) → ((s : RestOfText) → AtLine lines s → Lies lines s.line (step s)) → (n : ℕ) (s : RestOfText)
     → AtLine lines s → Lies lines s.line (times step n s)
 unfolding times
 times_lie lines step each zero s at = (at, omega arith)
 times_lie lines step each (suc n) s at = lies_then lines s.line (step s) _ (each s at) (λ first k. lies_then lines first.1.line (times step n first.1) _ (times_lie lines step each n first.1 k) (λ others m. (m, omega arith)))
 
 -- a line whose reader knows faults of form alone
-form_is_next : {A : Type 0} (read : ℕ → List ℕ → Result A FormFault) (s : RestOfText) → as_input (form_by read s) ≡ next_by (λ n l. as_input (read n l)) s
+pub form_is_next : {A : Type 0} (read : ℕ → List ℕ → Result A FormFault) (s : RestOfText) → as_input (form_by read s) ≡ next_by (λ n l. as_input (read n l)) s
 unfolding line_by
 form_is_next {A} read s = by (next_line s)
   where
@@ -244,7 +244,7 @@ input_then (Ok x) f = refl
 input_then (Err e) f = refl
 
 -- the two lines before the rows, in the words of the text
-sizes_are_next : (s : RestOfText) → as_input (sizes_at s) ≡ (next_by (λ n l. as_input (header_line n l)) s >>= λ h. next_by (λ n l. as_input (sizes_line n l)) h.1)
+pub sizes_are_next : (s : RestOfText) → as_input (sizes_at s) ≡ (next_by (λ n l. as_input (header_line n l)) s >>= λ h. next_by (λ n l. as_input (sizes_line n l)) h.1)
 unfolding sizes_at
 sizes_are_next s = input_then (form_by header_line s) _ ∙ by (as_input (form_by header_line s)) (next_by (λ n l. as_input (header_line n l)) s) (form_is_next header_line s)
   where
@@ -255,24 +255,24 @@ sizes_are_next s = input_then (form_by header_line s) _ ∙ by (as_input (form_b
     by : (r t : Result (Unit {0} × RestOfText) InputFault) → r ≡ t → (r >>= λ h. as_input (form_by sizes_line h.1)) ≡ (t >>= λ h. next_by (λ n l. as_input (sizes_line n l)) h.1)
     by r t e = of r ∙ ap (λ q. q >>= λ h. next_by (λ n l. as_input (sizes_line n l)) h.1) e
 
-sizes_lie : (lines : List (List ℕ)) (s : RestOfText) → AtLine lines s → LiesOn lines s.line (as_input (sizes_at s))
+pub sizes_lie : (lines : List (List ℕ)) (s : RestOfText) → AtLine lines s → LiesOn lines s.line (as_input (sizes_at s))
 sizes_lie lines s at = subst (LiesOn lines s.line) (sym (sizes_are_next s)) (lies_on_then lines s.line _ _ (next_lies_on lines _ header_of_line s at) (λ h k. next_lies lines _ sizes_of_line h.1 k))
 
-columns_lie : (lines : List (List ℕ)) (k r : ℕ) (s : RestOfText) → AtLine lines s → Lies lines s.line (columns_at k r s)
+pub columns_lie : (lines : List (List ℕ)) (k r : ℕ) (s : RestOfText) → AtLine lines s → Lies lines s.line (columns_at k r s)
 unfolding columns_at
 columns_lie lines k r s at = lies_then lines s.line (rows_at k r s) _ (times_lie lines (next_by (row_line r)) (λ t h. next_lies lines (row_line r) (row_of_line r) t h) k s at) (λ rows h. (h, omega arith))
 
-matrix_lies : (lines : List (List ℕ)) (s : RestOfText) → AtLine lines s → LiesOn lines s.line (matrix_at s)
+pub matrix_lies : (lines : List (List ℕ)) (s : RestOfText) → AtLine lines s → LiesOn lines s.line (matrix_at s)
 unfolding matrix_at
 matrix_lies lines s at = lies_on_then lines s.line (as_input (sizes_at s)) _ (sizes_lie lines s at) (λ sizes h. lies_then lines sizes.1.line (columns_at sizes.0.0 sizes.0.1 sizes.1) _ (columns_lie lines sizes.0.0 sizes.0.1 sizes.1 h) (λ columns k. (k, omega arith)))
 
-generators_lie : (lines : List (List ℕ)) (d : Degrees) (s : RestOfText) → AtLine lines s → Lies lines s.line (generators_at d s)
+pub generators_lie : (lines : List (List ℕ)) (d : Degrees) (s : RestOfText) → AtLine lines s → Lies lines s.line (generators_at d s)
 unfolding generators_at
 generators_lie lines d s at =
     lies_then lines s.line (as_input (form_by ideal_line s)) _ (subst (Lies lines s.line) (sym (form_is_next ideal_line s)) (next_lies lines _ ideal_of_line s at))
     (λ count h. times_lie lines (next_by (generator_line d s.line)) (λ t k. next_lies lines (generator_line d s.line) (generator_of_line d s.line) t k) count.0 count.1 h)
 
-rest_lies : (lines : List (List ℕ)) (d : Degrees) (s : RestOfText) → AtLine lines s → Lies lines s.line (rest_at d s)
+pub rest_lies : (lines : List (List ℕ)) (d : Degrees) (s : RestOfText) → AtLine lines s → Lies lines s.line (rest_at d s)
 unfolding rest_at
 rest_lies lines d s at =
     lies_then lines s.line (generators_at d s) _ (generators_lie lines d s at)
@@ -280,7 +280,7 @@ rest_lies lines d s at =
 
 -- ---- the whole text
 
-at_start : (bytes : List ℕ) → AtLine (contents_of bytes) (whole_text bytes)
+pub at_start : (bytes : List ℕ) → AtLine (contents_of bytes) (whole_text bytes)
 at_start bytes = record { some = omega arith; few = omega arith; are = refl }
 
 -- a fault of the matrix as it is judged stands at its last row

@@ -1,5 +1,5 @@
 //! Laws of the definitions, each the contract of an empty function.
-ghost use Rattle.git_text.specs.Laws.{OneInput, InputsAreGraded, ReadingIsTheGrammar, OneFirstFault, InputsHaveNoFault, InputOrFirstFault, FaultsLieInTheText, MonomialsApartAreFound, WrittenInputsAreReadBack};
+ghost use Rattle.git_text.specs.Laws.{OneInput, InputsAreGraded, ReadingIsTheGrammar, OneFirstFault, InputsHaveNoFault, InputOrFirstFault, FaultsLieInTheText, LaterLinesDoNotMatter, MonomialsApartAreFound, WrittenInputsAreReadBack};
 
 /// A text is one input at most.
 pub fn one_input()
@@ -34,6 +34,11 @@ pub fn input_or_first_fault()
 /// A first fault lies in the text: its column is that of a byte of its line, or one past the line's end; and its line may be one past the last.
 pub fn faults_lie_in_the_text()
     ensures { FaultsLieInTheText }
+{}
+
+/// But for what is missing or too much at the end, a first fault is that of each text with the same lines up to its own.
+pub fn later_lines_do_not_matter()
+    ensures { LaterLinesDoNotMatter }
 {}
 
 /// The monomials that reading finds apart are the lead's and the greatest of another degree, where there is one.

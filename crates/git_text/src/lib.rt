@@ -17,8 +17,8 @@ pub use fault::{BadKind, InputFault};
 pub use input::{announced_variables, read_input};
 pub use laws::{
     faults_lie_in_the_text, input_or_first_fault, inputs_are_graded, inputs_have_no_fault,
-    monomials_apart_are_found, one_first_fault, one_input, reading_is_the_grammar,
-    written_inputs_are_read_back,
+    later_lines_do_not_matter, monomials_apart_are_found, one_first_fault, one_input,
+    reading_is_the_grammar, written_inputs_are_read_back,
 };
 pub use writing::write_input;
 
