@@ -28,7 +28,7 @@ def draw(listing, columns):
     picture.region('M' + 'L'.join(map(place, ((zero, LINE - 22), (end, LINE - 22), (end + 22 * side, LINE),
                                               (end, LINE + 22), (zero, LINE + 22)))), TINTS[0],
                    named(listing.chambers[0]))
-    picture.segments('inner', [((zero, LINE), (end + 22 * side, LINE))])
+    picture.segments('leader', [((zero, LINE), (end + 22 * side, LINE))])
     picture.segments('boundary', [((zero, LINE - 22), (zero, LINE + 22))])
     picture.write((zero + side * (END - MARGIN - 8), LINE - 11), '1', 18, 'middle')
     draw_marks(picture, marks, zero, unit)

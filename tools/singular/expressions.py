@@ -36,7 +36,7 @@ def term(tokens, variables):
         line = tokens.next().line
         total = within_limits(product(total, power(tokens, variables)), line)
     if tokens.next().text == '/':
-        tokens.refuse('a fraction, and the coefficients of a generator have to be integers')
+        tokens.refuse('a rational number, and the coefficients of a generator have to be integers')
     return total
 
 
@@ -48,16 +48,16 @@ def power(tokens, variables):
     while tokens.takes('^', '**'):
         line = tokens.next().line
         exponent = int(tokens.take_kind('number'))
-        if exponent > LARGEST_EXPONENT and any(total):
-            raise Refusal(f'line {line}: an exponent above {LARGEST_EXPONENT}')
         total = raised(total, exponent, line)
     return total
 
 
 def raised(base, exponent, line):
-    """A power of a polynomial."""
+    """A power of a polynomial. Refuses one that is too large for an input text."""
     if not any(base):
         return constant(pow(base.get((), 0), exponent, MODULUS))
+    if exponent > LARGEST_EXPONENT:
+        raise Refusal(f'line {line}: an exponent above {LARGEST_EXPONENT}')
     total = constant(1)
     for _ in range(exponent):
         total = within_limits(product(total, base), line)
@@ -88,10 +88,10 @@ def atom(tokens, variables):
     name = indexed_name(tokens)
     if name in variables.index:
         return variable(variables.index[name])
-    short = short_monomial(name, variables)
+    short = short_monomial(name, variables, token.line)
     if short is None:
         raise Refusal(f'line {token.line}: {quoted(name)} is no variable')
-    return within_limits(short, token.line)
+    return short
 
 
 def indexed_name(tokens):
@@ -104,7 +104,7 @@ def indexed_name(tokens):
     return name
 
 
-def short_monomial(word, variables):
+def short_monomial(word, variables, line):
     """The monomial of a word as `3x2y`, where all variables are letters, or None."""
     digits = re.match('[0-9]*', word).group()
     letters = word[len(digits):]
@@ -114,6 +114,6 @@ def short_monomial(word, variables):
     for name, exponent in SHORT_POWER.findall(letters):
         if name not in variables.index:
             return None
-        monomial = ((variables.index[name], int(exponent or 1)),) if exponent != '0' else ()
-        total = product(total, {monomial: 1})
+        factor = raised(variable(variables.index[name]), int(exponent or 1), line)
+        total = within_limits(product(total, factor), line)
     return total

@@ -19,9 +19,10 @@ class Program:
         self.matrix_line = None
         self.generators = None
         self.lines = []
-        readers = {'LIB': self.read_library, 'option': self.read_option, 'ring': self.read_ring,
-                   'ideal': self.read_ideal, 'intmat': self.read_matrix, 'bigintmat': self.read_matrix,
-                   'matrix': self.read_matrix}
+        readers = {'ring': self.read_ring, 'ideal': self.read_ideal, 'intmat': self.read_matrix,
+                   'bigintmat': self.read_matrix, 'matrix': self.read_matrix, 'LIB': self.read_library,
+                   'option': self.read_option, 'echo': self.read_setting, 'short': self.read_setting,
+                   'printlevel': self.read_setting}
         while self.tokens.next().kind != 'end':
             if self.tokens.next().text not in readers:
                 self.tokens.refuse()
@@ -42,6 +43,11 @@ class Program:
         self.tokens.needs('(')
         while not self.tokens.takes(')'):
             self.tokens.take()
+
+    def read_setting(self):
+        """Passes over the number that a setting of what is printed is given."""
+        self.tokens.needs('=')
+        self.tokens.take_kind('number')
 
     def read_ring(self):
         """Reads the ring: its coefficients and its variables. The order of monomials is passed over."""
