@@ -1,0 +1,1 @@
+"""Pictures of listings as SVG, one module for each kind of rank."""

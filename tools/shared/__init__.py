@@ -1,0 +1,1 @@
+"""What the tools share: their words, listings, gradings and exact linear algebra."""

@@ -1,0 +1,40 @@
+"""Whether the chambers of a listing form a fan."""
+
+from shared.linear import dot, negative
+
+
+def why_no_fan(listing):
+    """Why the chambers form no fan with a convex support, as a sentence, or None where they form one.
+
+    Where each inner facet is a whole facet of both of its chambers, walking through the inside from chamber to chamber
+    never leaves the cone that the boundary facets cut out, and as many chambers hold one point off all walls as any
+    other. So the chambers cover that cone once where one such point lies in one chamber.
+    """
+    by_normal = [{facet.normal: facet for facet in chamber.facets} for chamber in listing.chambers]
+    for chamber in listing.chambers:
+        for facet in chamber.facets:
+            if facet.neighbour is not None and not is_shared(listing, by_normal, chamber, facet):
+                return (f'the facet {shown(facet.normal)} of chamber {chamber.number} '
+                        f'is no whole facet of chamber {facet.neighbour}')
+    rays = {ray for chamber in listing.chambers for ray in chamber.rays}
+    boundary = {facet.normal for chamber in listing.chambers for facet in chamber.facets if facet.neighbour is None}
+    for normal in sorted(boundary):
+        if any(dot(normal, ray) < 0 for ray in rays):
+            return f'chambers lie on both sides of the boundary facet {shown(normal)}'
+    weight = listing.chambers[0].weight
+    for chamber in listing.chambers[1:]:
+        if all(dot(facet.normal, weight) >= 0 for facet in chamber.facets):
+            return f'chamber {chamber.number} holds the weight of chamber 1'
+    return None
+
+
+def is_shared(listing, by_normal, chamber, facet):
+    """Whether an inner facet is a facet of the chamber behind it, with the same rays, that leads back."""
+    behind = by_normal[facet.neighbour - 1].get(negative(facet.normal))
+    return (behind is not None and behind.neighbour == chamber.number
+            and set(chamber.rays_on(facet)) == set(listing.chambers[facet.neighbour - 1].rays_on(behind)))
+
+
+def shown(vector):
+    """A vector as a listing shows it."""
+    return ' '.join(map(str, vector))
