@@ -11,3 +11,5 @@ pub mod NumberLemmas
 pub mod WordLemmas
 pub mod FieldLemmas
 pub mod Extents
+pub mod SpacedLemmas
+pub mod WrittenLines

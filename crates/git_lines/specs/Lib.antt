@@ -9,3 +9,4 @@ pub mod Grammar
 pub mod Strict
 pub mod Printing
 pub mod Laws
+pub mod Fields

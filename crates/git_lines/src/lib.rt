@@ -5,6 +5,7 @@
 #![tactic(auto)]
 
 mod fault;
+mod fields;
 mod laws;
 mod lines;
 mod numbers;
@@ -13,6 +14,7 @@ mod steps;
 mod tokens;
 
 pub use fault::{FormFault, FormKind};
+pub use fields::Fields;
 pub use laws::{
     carriage_return_ends_the_line, fields_are_read_back, fields_make_the_line,
     integers_are_read_back, integers_are_read_back_once, integers_have_one_spelling,

@@ -265,3 +265,34 @@ fn steps_report_the_place(rt: HostRuntime) -> Result<(), Fail> {
     assert_eq!(rt; rest.past(), 11);
     Ok(())
 }
+
+/// What is read of a line by the word `ray` and two integers from -9 to 9.
+fn two_integers(text: &[u8]) -> Result<(i64, i64), FormFault> {
+    let mut fields = Fields::new(&Line { number: 7, text });
+    fields.word_field(b"ray")?;
+    let first = fields.integer_field(-9, 9)?;
+    let second = fields.integer_field(-9, 9)?;
+    fields.no_field()?;
+    Ok((first, second))
+}
+
+#[test]
+fn single_spaced_lines_have_one_spelling(rt: HostRuntime) {
+    assert_eq!(rt; two_integers(b"ray -9 0"), Ok((-9, 0)));
+    for (text, kind) in [
+        (b"".as_slice(), FormKind::Count),
+        (b"ray".as_slice(), FormKind::Count),
+        (b"ray 1".as_slice(), FormKind::Count),
+        (b"ray 1 2 3".as_slice(), FormKind::Count),
+        (b"way 1 2".as_slice(), FormKind::Syntax),
+        (b" ray 1 2".as_slice(), FormKind::Syntax),
+        (b"ray  1 2".as_slice(), FormKind::Syntax),
+        (b"ray 1 2 ".as_slice(), FormKind::Syntax),
+        (b"ray 01 2".as_slice(), FormKind::Number),
+        (b"ray 1 -0".as_slice(), FormKind::Number),
+        (b"ray 1 1234567890123456789".as_slice(), FormKind::Number),
+        (b"ray 1 10".as_slice(), FormKind::Range),
+    ] {
+        assert_eq!(rt; two_integers(text), Err(fault(7, 1, kind)));
+    }
+}

@@ -1,9 +1,11 @@
-//! The value of a listing of chambers. Stands on vectors; what makes, prints or reads a listing stands on it.
+//! Listings of chambers: their value and their text. What makes listings stands on this crate.
 #![tactic(auto)]
 
 mod listing;
+mod printing;
 
 pub use listing::{ListedChamber, ListedFacet, ListedSide, Listing};
+pub use printing::print;
 
 #[cfg(test)]
 mod tests;

@@ -11,7 +11,6 @@ pub mod WholeTexts
 pub mod Verdicts
 pub mod NoWant
 pub mod Totality
-pub mod WrittenLines
 pub mod ReadBackInputs
 pub mod WrittenTexts
 pub mod FaultPlaces

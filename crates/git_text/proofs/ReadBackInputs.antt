@@ -24,7 +24,7 @@ use Rattle.git_lines.proofs.NumberLemmas.{integer_is_read_back}
 use Rattle.git_text.specs.Grammar.{IsRow, IsGenerator, column_of, columns_of, IsMatrixText, IsInputFront, IsInput}
 use Rattle.git_input.specs.Inputs.{InputValue, AreGenerators}
 use Rattle.git_text.specs.Writing.{row_of_columns, row_line_text, input_lines, input_text}
-use Rattle.git_text.proofs.WrittenLines.{inside_line, IsPlainWord, all_more, word_in_line, contents_back, are_words, spaced_inside, decimal_word, signed_word}
+use Rattle.git_lines.proofs.WrittenLines.{inside_line, IsPlainWord, all_more, word_in_line, contents_back, are_words, spaced_inside, decimal_word, signed_word}
 
 -- ---- the columns of the rows are the columns
 

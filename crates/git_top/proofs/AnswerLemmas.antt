@@ -22,7 +22,7 @@ use Rattle.git_text.proofs.Matrices.{text_is_a_grading}
 use Rattle.git_plane.proofs.Unique.{listing_once}
 use Rattle.git_top.specs.Cases.{Case, Passes, HasOne, HasSome, Settles}
 use Rattle.git_top.specs.Refusals.{fault_text, long_text}
-use Rattle.git_top.specs.ListingText.{listing_text}
+use Rattle.git_listing.specs.ListingText.{listing_text}
 use Rattle.git_top.specs.Laws.{OneAnswer, EachTextHasAnAnswer, InputsAreDone}
 use Rattle.git_top.specs.Run.{input_limit, no_command, too_long, NamesFault, not_built, ListsChambers, input_answer, of_input, fan_answer, answer_to, fan_words, usage_text, unbuilt_text}
 use Rattle.git_top.proofs.CaseLemmas.{one_of, some_of}
