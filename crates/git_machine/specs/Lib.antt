@@ -1,0 +1,3 @@
+pub mod Signatures
+pub mod Ties
+pub mod SignatureLaws
