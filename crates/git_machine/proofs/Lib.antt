@@ -1,2 +1,4 @@
 pub mod Among
 pub mod Words
+pub mod Puts
+pub mod Runs

@@ -1,0 +1,13 @@
+-- What holds of the closure machine over all lists of events, as the laws of this crate say it.
+use Rattle.std.specs.Prelude.{◌≡◌, ◌↔◌, List}
+use Rattle.git_machine.specs.Reach.{Reached}
+use Rattle.git_machine.specs.Machine.{MachineState, MachineEvent, opening, run, AllEnabled, IsSound, IsIdle, IsListed}
+
+module _ {X : Type 0} (next : X → List X → Type 0) where
+  -- after any list of enabled events, by any workers in any order
+  abbrev pub EveryRunIsSound : Type 0
+  EveryRunIsSound = (first : X) (events : List (MachineEvent X)) → AllEnabled next (opening first) events → IsSound next first (run (opening first) events)
+
+  -- where quiet is enabled then, the listed signatures are exactly the reach
+  abbrev pub QuietListsTheReach : Type 0
+  QuietListsTheReach = (first : X) (events : List (MachineEvent X)) → AllEnabled next (opening first) events → IsIdle (run (opening first) events) → (s : X) → Reached next first s ↔ IsListed (run (opening first) events) s
