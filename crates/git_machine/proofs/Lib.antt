@@ -1,4 +1,6 @@
 pub mod Among
 pub mod Words
 pub mod Puts
+pub mod Written
 pub mod Runs
+pub mod Steps

@@ -68,7 +68,7 @@ module _ {X : Type 0} (next : X → List X → Type 0) (first : X) where
   }
 
   -- an id that is in some place is listed
-  listed_or : (m : MachineState X) → S m → (id : ℕ) → ¬ IsUnused m id → (s : X) × (m.listed id ≡ Some s)
+  pub listed_or : (m : MachineState X) → S m → (id : ℕ) → ¬ IsUnused m id → (s : X) × (m.listed id ≡ Some s)
   listed_or m h id used = pick (m.listed id) refl
     where
       pick : (o : Option X) → m.listed id ≡ o → (s : X) × (m.listed id ≡ Some s)

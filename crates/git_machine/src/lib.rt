@@ -8,14 +8,17 @@
 mod comparing;
 mod event;
 pub mod laws;
+mod lists;
 mod place;
 mod signature;
 pub mod signature_laws;
+mod state;
 mod successors;
 
 pub use event::{Event, StepFault};
 pub use place::Place;
 pub use signature::Sig;
+pub use state::State;
 pub use successors::{CloseFault, Closed, Expansion, Found, Successors};
 
 #[cfg(test)]
