@@ -1,5 +1,5 @@
 -- What each event does to what is kept of a state, and why it isn't enabled where it is refused.
-use Rattle.std.proofs.Common.{◌≡◌, ◌≢◌, ◌⊎◌, inl, inr, ℕ, ◌+◌, ◌<◌, ◌≤◌, ◌^◌, Bool, true, false, List, [], ◌∷◌, ◌++◌, length, get_or, slice_get, slice_index_or, Option, Some, None, set, zero, suc, replicate, refl, sym, ap, ◌∙◌, subst, arith, get_or-set_same, get_or-set_other, length-append, length-set}
+use Rattle.std.proofs.Common.{◌≡◌, inl, inr, ℕ, ◌+◌, ◌<◌, Bool, true, false, List, [], ◌∷◌, ◌++◌, length, get_or, slice_get, slice_index_or, Option, Some, None, set, zero, suc, replicate, refl, sym, ap, ◌∙◌, subst, arith, get_or-set_same, get_or-set_other, length-append, length-set}
 use Rattle.std.specs.List.{All, Contains}
 use Rattle.std.proofs.lemmas.Bool.{cases_eq, cases_lt}
 use Rattle.std.proofs.lemmas.List.{get_or_past}
@@ -8,8 +8,8 @@ use Rattle.std.proofs.lemmas.Option.{slice_get_past, slice_get_within}
 use Rattle.git_machine.specs.declared.place.Place.{Place}
 use Rattle.git_machine.specs.declared.place.Place.TheVariants.{Queued, InHand, Finished}
 use Rattle.git_machine.specs.Signatures.{Signature}
-use Rattle.git_machine.specs.Reach.{LeadsTo, Reached}
-use Rattle.git_machine.specs.Machine.{MachineState, MachineEvent, publish, meet, take_up, finish, opening, happens, put, HandLeadsTo, IsListed, IsExplored, IsUnused, IsIdle, Enabled, IsSound}
+use Rattle.git_machine.specs.Reach.{Reached}
+use Rattle.git_machine.specs.Machine.{MachineEvent, publish, meet, take_up, finish, opening, happens, put, HandLeadsTo, IsExplored, IsIdle, Enabled, IsSound}
 use Rattle.git_machine.specs.States.{Kept, state_of, is_queued, is_finished, IsKept}
 use Rattle.git_machine.proofs.Puts.{put_here, put_else}
 use Rattle.git_machine.proofs.Written.{pushed, written, is_member, member_at, put_then, put_again}
@@ -85,7 +85,7 @@ module _ {G : Type 0} (k : Kept G) where
     pub hand_listed : (w i : ℕ) → slice_index_or k.hands w None ≡ Some i → (s : Signature) × (slice_get k.listed i ≡ Some s)
     hand_listed w i is = listed_or next h.first (state_of k) h.sound i (λ un. un.hands w is)
 
-    legal_at : (i : ℕ) (s : Signature) → slice_get k.listed i ≡ Some s → legal s
+    pub legal_at : (i : ℕ) (s : Signature) → slice_get k.listed i ≡ Some s → legal s
     legal_at i s is = All-contains legal k.listed s h.legal_all (is_member k.listed i s is)
 
     pub hand_leads : (w i : ℕ) (s x : Signature) (ns : List Signature) → slice_index_or k.hands w None ≡ Some i → slice_get k.listed i ≡ Some s → next s ns → Contains ns x → HandLeadsTo next (state_of k) w x

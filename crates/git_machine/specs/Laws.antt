@@ -1,7 +1,7 @@
 -- What holds of the closure machine over all lists of events, as the laws of this crate say it.
-use Rattle.std.specs.Prelude.{◌≡◌, ◌↔◌, List}
+use Rattle.std.specs.Prelude.{◌↔◌, List}
 use Rattle.git_machine.specs.Reach.{Reached}
-use Rattle.git_machine.specs.Machine.{MachineState, MachineEvent, opening, run, AllEnabled, IsSound, IsIdle, IsListed}
+use Rattle.git_machine.specs.Machine.{MachineEvent, opening, run, AllEnabled, IsSound, IsIdle, IsListed}
 
 module _ {X : Type 0} (next : X → List X → Type 0) where
   -- after any list of enabled events, by any workers in any order

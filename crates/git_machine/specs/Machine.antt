@@ -1,5 +1,5 @@
 -- The closure machine: its states, its events, where each is enabled and what it does.
-use Rattle.std.specs.Prelude.{◌≡◌, ◌≢◌, ◌⊎◌, ◌↔◌, ℕ, Bool, true, false, List, [], ◌∷◌, ◌==◌, Option, Some, None, if◌then◌else◌}
+use Rattle.std.specs.Prelude.{◌≡◌, ◌≢◌, ◌⊎◌, ℕ, Bool, true, false, List, [], ◌∷◌, ◌==◌, Option, Some, None, if◌then◌else◌}
 use Rattle.git_machine.specs.Reach.{LeadsTo, Reached}
 
 -- listed: the signature of each id. queued and finished: sets of ids. hands: the id in the hand of each worker

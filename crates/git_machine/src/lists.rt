@@ -31,7 +31,7 @@ pub(crate) fn contains_all(sigs: &[Sig], xs: &[Sig]) -> bool
 }
 
 /// The id in the hand of a worker, and none for a worker past the last.
-fn hand_at(hands: &[Option<u32>], worker: u32) -> Option<u32>
+pub(crate) fn hand_at(hands: &[Option<u32>], worker: u32) -> Option<u32>
     ensures { result ≡ slice_index_or hands.now worker None }
 {
     let w = worker as usize;

@@ -7,9 +7,11 @@ ghost use Rattle.git_machine.specs.Machine.{IsIdle, IsListed, happens, opening};
 ghost use Rattle.git_machine.specs.States.{GivesNext, IsAllowed, event_of, state_of};
 
 use crate::event::{Event, StepFault};
-use crate::lists::{contains, contains_all, has_hand, is_in_hand, is_waiting, no_hand, no_queued};
+use crate::lists::{
+    contains, contains_all, hand_at, has_hand, is_in_hand, is_waiting, no_hand, no_queued,
+};
 use crate::place::Place;
-use crate::{Sig, Successors};
+use crate::{Expansion, Sig, Successors};
 use git_base::NoMemory;
 use std::alloc::Global;
 use std::marker::Model;
@@ -184,6 +186,35 @@ impl<'a, G: Successors> State<'a, G> {
         self.hands[w] = None;
         self.places[i] = Place::Finished;
         Ok(())
+    }
+
+    fn next_of_hand(&self, alloc: Global, worker: u32) -> Result<Vec<Sig>, NoMemory>
+    where
+        G::Payload: Drop,
+        ensures of_hand { IfOk result (λ ns. (id : ℕ) (s : Signature) → slice_index_or self.now.hands worker None ≡ Some id → slice_get self.now.listed id ≡ Some s → G.next self.now.graph s ns.items) }
+        ensures no_hand { IfOk result (λ ns. slice_index_or self.now.hands worker None ≡ None → ns.items ≡ []) }
+    {
+        let Some(id) = hand_at(self.hands.as_slice(), worker) else {
+            return Ok(Vec::new(alloc));
+        };
+        let Expansion { next, payload: _ } = self.graph.expand(alloc, &self.listed[id as usize])?;
+        Ok(next)
+    }
+
+    /// The next of the signature in the hand of the event's worker, and nothing where there is no hand:
+    /// what [`State::step`] asks for.
+    pub fn next_for(&self, alloc: Global, event: &Event) -> Result<Vec<Sig>, NoMemory>
+    where
+        G::Payload: Drop,
+        ensures { IfOk result (λ ns. GivesNext (G.next self.now.graph) self.now event.now ns.items) }
+    {
+        match event {
+            Event::Publish { worker, sig: _ } => self.next_of_hand(alloc, *worker),
+            Event::Meet { worker, id: _ } => self.next_of_hand(alloc, *worker),
+            Event::Take { worker, id: _ } => self.next_of_hand(alloc, *worker),
+            Event::Finish { worker, id: _ } => self.next_of_hand(alloc, *worker),
+            Event::Quiet => Ok(Vec::new(alloc)),
+        }
     }
 
     /// Lets an event happen. `next` is the next of the signature in the hand of the event's worker.

@@ -1,13 +1,9 @@
-use Rattle.std.proofs.Common.{◌≡◌, ◌≢◌, ◌⊎◌, inl, inr, ℕ, ◌+◌, ◌<◌, List, [], ◌∷◌, ◌++◌, Option, Some, None, true, false, IsTrue, length, slice_index_or, slice_get, get_or, sym, ◌∙◌, ap, subst, arith, refl, rules, set}
+use Rattle.std.proofs.Common.{◌≡◌, ℕ, List, Option, Some, None, true, false, IsTrue, slice_index_or, slice_get, sym, ◌∙◌, subst, arith}
 use Rattle.std.specs.List.{All, Contains}
-use Rattle.std.proofs.lemmas.Option.{slice_get_read, slice_get_within}
-use Rattle.git_machine.specs.declared.event.Event.TheVariants.{Publish, Meet, Take, Finish}
-use Rattle.git_machine.specs.declared.place.Place.{Place}
-use Rattle.git_machine.specs.declared.place.Place.TheVariants.{Queued, InHand, Finished}
+use Rattle.git_machine.specs.declared.event.Event.TheVariants.{Finish}
 use Rattle.git_machine.specs.Signatures.{Signature}
-use Rattle.git_machine.specs.Reach.{Reached}
-use Rattle.git_machine.specs.Machine.{happens, publish, meet, take_up, finish, Enabled, IsIdle}
-use Rattle.git_machine.specs.States.{Kept, IsKept, IsAllowed, HasRoom, state_of, event_of, is_queued}
+use Rattle.git_machine.specs.Machine.{happens}
+use Rattle.git_machine.specs.States.{Kept, IsKept, IsAllowed, state_of, event_of}
 use Rattle.git_machine.proofs.Steps.{may_finish, must_explore, finishes, keeps_finish, hand_unqueued, hand_within, listed_place, did}
 use Rattle.git_machine.proofs.state.State.finish.Goals as goal
 

@@ -1,7 +1,5 @@
-use Rattle.std.proofs.Common.{◌≡◌, ◌∷◌, [], List, Option, ℕ, None, replicate, sym, ◌∙◌, rules}
-use Rattle.git_machine.specs.declared.place.Place.{Place}
+use Rattle.std.proofs.Common.{◌≡◌, ◌∷◌, []}
 use Rattle.git_machine.specs.declared.place.Place.TheVariants.{Queued}
-use Rattle.git_machine.specs.Signatures.{Signature}
 use Rattle.git_machine.proofs.Steps.{kept_opening}
 use Rattle.git_machine.proofs.state.State.new.Goals as goal
 
