@@ -1,5 +1,5 @@
 -- Signatures by their bits.
-use Rattle.std.proofs.Common.{◌≡◌, ◌≢◌, inl, inr, ℕ, suc, ◌+◌, ◌*◌, ◌/◌, ◌%◌, ◌^◌, ◌<◌, ◌≤◌, ◌==◌, Bool, List, [], ◌∷◌, length, slice_index, refl, sym, ◌∙◌, ap, subst, arith, lit<, w64}
+use Rattle.std.proofs.Common.{◌≡◌, ◌≢◌, inl, inr, ℕ, suc, ◌+◌, ◌*◌, ◌/◌, ◌%◌, ◌^◌, ◌<◌, ◌≤◌, ◌==◌, List, [], ◌∷◌, length, slice_index, refl, sym, ◌∙◌, ap, subst, arith, lit<, w64, false}
 use Rattle.std.specs.Prelude.{◌↔◌}
 use Rattle.std.specs.List.{AllPairs, Contains}
 use Rattle.std.specs.Int.{bit_at, trailing_zeros}
@@ -15,25 +15,41 @@ use Rattle.std.proofs.lemmas.Bool.{cases_lt, cases_eq, cases_order, eq-eqb, ne_e
 use Rattle.std.proofs.lemmas.List.{get_or_past}
 use Rattle.std.proofs.lemmas.Nat.Bits.{bit_at-lt, bit_at-zero, bit_at_xor, bit_at_above, bit_at-trailing_zeros, same_from_bits_below}
 use lib.Seq.{ext_get_or}
-use Rattle.git_machine.specs.Signatures.{Signature, AreWords, bit_of, Has, numbers_of, signature_cmp}
+use Rattle.git_machine.specs.Signatures.{Signature, AreWords, has_number, Has, numbers_of, signature_cmp}
+use Rattle.git_bits.proofs.Bits.{bit_of_part}
 use Rattle.git_machine.specs.Ties.{signature_total}
 use Rattle.git_machine.proofs.Among.{among, among_none, among_same, among_longer, among_passes, passes_among, among_ascends, less_than_among, first_difference}
 
--- whether the set has the number, as a test
-abbrev pub test : Signature → ℕ → Bool
-test s n = bit_of s n == 1
+-- the bit of a number as a number, 1 where the set has it
+abbrev pub bit_of : Signature → ℕ → ℕ
+bit_of s n = bit_at (slice_index s (n / 64)) (n % 64)
+
+test_is : (s : Signature) (n : ℕ) → has_number s n ≡ (bit_of s n == 1)
+test_is s n = bit_of_part (slice_index s (n / 64)) (n % 64)
+
+pub has_one : (s : Signature) (n : ℕ) → Has s n → bit_of s n ≡ 1
+has_one s n has = eqb-true (bit_of s n) 1 (sym (test_is s n) ∙ has)
+
+pub one_has : (s : Signature) (n : ℕ) → bit_of s n ≡ 1 → Has s n
+one_has s n one = test_is s n ∙ eq-eqb (bit_of s n) 1 one
+
+unset : (s : Signature) (n : ℕ) → (bit_of s n ≢ 1) → has_number s n ≡ false
+unset s n other = test_is s n ∙ ne_eqb (bit_of s n) 1 other
 
 pub bit_past : (s : Signature) (n : ℕ) → 64 * length s ≤ n → bit_of s n ≡ 0
 bit_past s n past = ap (λ w. bit_at w (n % 64)) (get_or_past s (n / 64) 0 (omega arith)) ∙ bit_at-zero (n % 64)
 
 pub not_has : (s : Signature) (n : ℕ) → ¬ Has s n → bit_of s n ≡ 0
-not_has s n out = let h = bit_at-lt (slice_index s (n / 64)) (n % 64) in elim (cases_eq (bit_of s n) 1) [ inl is ↦ absurd (out is) | inr other ↦ omega arith ]
+not_has s n out = let h = bit_at-lt (slice_index s (n / 64)) (n % 64) in elim (cases_eq (bit_of s n) 1) [ inl is ↦ absurd (out (one_has s n is)) | inr other ↦ omega arith ]
 
-pub within : (s : Signature) (n : ℕ) → Has s n → n < 64 * length s
-within s n has = elim (cases_lt n (64 * length s)) [ inl low ↦ low | inr past ↦ absurd (omega (arith, bit_past s n past, has)) ]
+pub within : (s : Signature) (n : ℕ) → bit_of s n ≡ 1 → n < 64 * length s
+within s n one = elim (cases_lt n (64 * length s)) [ inl low ↦ low | inr past ↦ absurd (omega (arith, bit_past s n past, one)) ]
 
 pub same_bit : (a b : Signature) (n : ℕ) → Has a n ↔ Has b n → bit_of a n ≡ bit_of b n
-same_bit a b n iff = elim (cases_eq (bit_of a n) 1) [ inl is ↦ is ∙ sym (iff.0 is) | inr other ↦ not_has a n other ∙ sym (not_has b n (λ is. other (iff.1 is))) ]
+same_bit a b n iff = elim (cases_eq (bit_of a n) 1) [
+  | inl is ↦ is ∙ sym (has_one b n (iff.0 (one_has a n is)))
+  | inr other ↦ not_has a n (λ has. other (has_one a n has)) ∙ sym (not_has b n (λ has. other (has_one a n (iff.1 has))))
+]
 
 -- the bit that stands for a number, where the word's place and the bit's are known
 pub bit_in_word : (s : Signature) (i j : ℕ) → j < 64 → bit_of s (64 * i + j) ≡ bit_at (slice_index s i) j
@@ -53,25 +69,25 @@ equal_sets a b p q long same = ext_get_or 0 a b long (λ i _. same_words a b p q
 
 -- ---- the list of numbers
 -- it may be read off any range that is long enough
-pub numbers_to : (s : Signature) (count : ℕ) → 64 * length s ≤ count → among (test s) 0 count ≡ numbers_of s
+pub numbers_to : (s : Signature) (count : ℕ) → 64 * length s ≤ count → among (has_number s) 0 count ≡ numbers_of s
 unfolding numbers_of
-numbers_to s count long = among_longer (test s) 0 (64 * length s) count long (λ m past. ne_eqb (bit_of s m) 1 (λ is. omega (arith, bit_past s m (omega arith))))
+numbers_to s count long = among_longer (has_number s) 0 (64 * length s) count long (λ m past. unset s m (λ is. omega (arith, bit_past s m (omega arith))))
 
 pub numbers_members : (s : Signature) (n : ℕ) → Contains (numbers_of s) n ↔ Has s n
 unfolding numbers_of
 numbers_members s n = (
-  λ has. eqb-true (bit_of s n) 1 (among_passes (test s) 0 (64 * length s) n has).1,
-  λ has. passes_among (test s) 0 (64 * length s) n (omega arith) (omega (arith, within s n has)) (eq-eqb (bit_of s n) 1 has),
+  λ has. (among_passes (has_number s) 0 (64 * length s) n has).1,
+  λ has. passes_among (has_number s) 0 (64 * length s) n (omega arith) (omega (arith, within s n (has_one s n has))) has,
 )
 
 pub numbers_ascend : (s : Signature) → AllPairs (λ i j. i < j) (numbers_of s)
 unfolding numbers_of
-numbers_ascend s = among_ascends (test s) 0 (64 * length s)
+numbers_ascend s = among_ascends (has_number s) 0 (64 * length s)
 
 pub same_numbers : (a b : Signature) → ((n : ℕ) → bit_of a n ≡ bit_of b n) → numbers_of a ≡ numbers_of b
 same_numbers a b same =
     let count : ℕ = 64 * (length a + length b) in
-    sym (numbers_to a count (omega arith)) ∙ (among_same (test a) (test b) 0 count (λ n. ap (λ x. x == 1) (same n)) ∙ numbers_to b count (omega arith))
+    sym (numbers_to a count (omega arith)) ∙ (among_same (has_number a) (has_number b) 0 count (λ n. test_is a n ∙ (ap (λ x. x == 1) (same n) ∙ sym (test_is b n))) ∙ numbers_to b count (omega arith))
 
 -- ---- the order
 -- the first difference is n, which only a has
@@ -79,21 +95,21 @@ module _ (a b : Signature) (n : ℕ) (same : (m : ℕ) → m < n → bit_of a m 
   count : ℕ
   count = 64 * (length a + length b)
 
-  decided : (r : Ordering) → ((c : ℕ) (xs : List ℕ) → n + 1 + c ≡ 64 * (length a + length b) → slice_cmp nat_cmp (n ∷ xs) (among (test b) (n + 1) c) ≡ r) → slice_cmp nat_cmp (numbers_of a) (numbers_of b) ≡ r
+  decided : (r : Ordering) → ((c : ℕ) (xs : List ℕ) → n + 1 + c ≡ 64 * (length a + length b) → slice_cmp nat_cmp (n ∷ xs) (among (has_number b) (n + 1) c) ≡ r) → slice_cmp nat_cmp (numbers_of a) (numbers_of b) ≡ r
   decided r rest =
       let total : ℕ = 64 * (length a + length b) in
-      let found = first_difference (test a) (test b) total n r rest (eq-eqb (bit_of a n) 1 mine) (ne_eqb (bit_of b n) 1 (λ is. omega arith)) 0 total (omega arith) (omega arith) (omega (arith, within a n mine)) (λ m low. ap (λ x. x == 1) (same m low)) in
-      subst (λ (xs : List ℕ). slice_cmp nat_cmp xs (numbers_of b) ≡ r) (numbers_to a total (omega arith)) (subst (λ (ys : List ℕ). slice_cmp nat_cmp (among (test a) 0 total) ys ≡ r) (numbers_to b total (omega arith)) found)
+      let found = first_difference (has_number a) (has_number b) total n r rest (one_has a n mine) (unset b n (λ is. omega arith)) 0 total (omega arith) (omega arith) (omega (arith, within a n mine)) (λ m low. test_is a m ∙ (ap (λ x. x == 1) (same m low) ∙ sym (test_is b m))) in
+      subst (λ (xs : List ℕ). slice_cmp nat_cmp xs (numbers_of b) ≡ r) (numbers_to a total (omega arith)) (subst (λ (ys : List ℕ). slice_cmp nat_cmp (among (has_number a) 0 total) ys ≡ r) (numbers_to b total (omega arith)) found)
 
   pub before : (m : ℕ) → n < m → Has b m → signature_cmp a b ≡ Less
   before m above has =
       ap (λ o. ordering_then o (slice_cmp nat_cmp a b))
-      (decided Less (λ c xs total. less_than_among (test b) n (n + 1) c xs m (omega arith) (omega arith) (omega (arith, within b m has)) (eq-eqb (bit_of b m) 1 has)))
+      (decided Less (λ c xs total. less_than_among (has_number b) n (n + 1) c xs m (omega arith) (omega arith) (omega (arith, within b m (has_one b m has))) has))
 
   pub after : ((m : ℕ) → n < m → ¬ Has b m) → signature_cmp a b ≡ Greater
   after none =
       ap (λ o. ordering_then o (slice_cmp nat_cmp a b))
-      (decided Greater (λ c xs total. ap (λ (ys : List ℕ). slice_cmp nat_cmp (n ∷ xs) ys) (among_none (test b) (n + 1) c (λ m low high. ne_eqb (bit_of b m) 1 (none m (omega arith))))))
+      (decided Greater (λ c xs total. ap (λ (ys : List ℕ). slice_cmp nat_cmp (n ∷ xs) ys) (among_none (has_number b) (n + 1) c (λ m low high. unset b m (λ is. none m (omega arith) (one_has b m is))))))
 
 -- nothing differs but the widths
 same_rank : (x y : ℕ) → nat_cmp x y ≡ nat_cmp (suc x) (suc y)
@@ -145,18 +161,19 @@ no_higher_bit x k j few above =
     bit_at_above x (suc k) j (subst (λ m. x < m) (sym (pow-succ' 2 k)) small) (omega arith)
 
 pub above_in_word : (s : Signature) (i k : ℕ) → slice_index s i < 2 ^ 64 → 1 < slice_index s i / 2 ^ k → (n : ℕ) × (64 * i + k < n) × Has s n
-above_in_word s i k small more = let j = higher_bit (slice_index s i) k small more in (64 * i + j.0, omega (arith, j.1), bit_in_word s i j.0 j.2 ∙ j.3)
+above_in_word s i k small more = let j = higher_bit (slice_index s i) k small more in (64 * i + j.0, omega (arith, j.1), one_has s (64 * i + j.0) (bit_in_word s i j.0 j.2 ∙ j.3))
 
 pub above_in_later : (s : Signature) (i k l : ℕ) → k < 64 → i < l → slice_index s l < 2 ^ 64 → slice_index s l ≢ 0 → (n : ℕ) × (64 * i + k < n) × Has s n
-above_in_later s i k l low later small some = let j = nonzero_has (slice_index s l) small (omega arith) in (64 * l + j.0, omega arith, bit_in_word s l j.0 j.1 ∙ j.2)
+above_in_later s i k l low later small some = let j = nonzero_has (slice_index s l) small (omega arith) in (64 * l + j.0, omega arith, one_has s (64 * l + j.0) (bit_in_word s l j.0 j.1 ∙ j.2))
 
 pub none_above : (s : Signature) (i k : ℕ) → k < 64 → slice_index s i / 2 ^ k ≤ 1 → ((l : ℕ) → i < l → slice_index s l ≡ 0) → (n : ℕ) → 64 * i + k < n → ¬ Has s n
 none_above s i k low few none n above has =
+    let one = has_one s n has in
     elim (cases_order (n / 64) i) [
-      | inl here ↦ let w = ap (λ m. bit_at (slice_index s m) (n % 64)) here in omega (arith, no_higher_bit (slice_index s i) k (n % 64) few (omega arith), w, has)
+      | inl here ↦ let w = ap (λ m. bit_at (slice_index s m) (n % 64)) here in omega (arith, no_higher_bit (slice_index s i) k (n % 64) few (omega arith), w, one)
       | inr apart ↦ elim apart [
         | inl earlier ↦ omega arith
-        | inr later ↦ let w = ap (λ m. bit_at m (n % 64)) (none (n / 64) later) in omega (arith, bit_at-zero (n % 64), w, has)
+        | inr later ↦ let w = ap (λ m. bit_at m (n % 64)) (none (n / 64) later) in omega (arith, bit_at-zero (n % 64), w, one)
       ]
     ]
 

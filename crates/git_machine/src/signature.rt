@@ -10,6 +10,7 @@ ghost use Rattle.git_machine.specs.Ties.{signature_total, signature_ties, signat
 
 use crate::comparing::{compare, word_at};
 use git_base::NoMemory;
+use git_bits::has_bit;
 use std::alloc::Global;
 use std::cmp::Ordering;
 use std::hash::{Hash, Hasher};
@@ -60,7 +61,7 @@ impl Sig {
         ensures { IsTrue result ↔ Has self.now n }
     {
         let word = word_at(self.words.as_slice(), n as usize / 64);
-        word >> (n % 64) & 1 == 1
+        has_bit(word, n % 64)
     }
 
     /// The number of words.
