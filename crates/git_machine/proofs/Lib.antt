@@ -4,3 +4,4 @@ pub mod Puts
 pub mod Written
 pub mod Runs
 pub mod Steps
+pub mod Once

@@ -1,6 +1,6 @@
 //! What holds of the closure machine after every list of events. Each function is a law: its contract
 //! says it.
-ghost use Rattle.git_machine.specs.Laws.{EveryRunIsSound, QuietListsTheReach};
+ghost use Rattle.git_machine.specs.Laws.{EveryRunIsSound, QuietListsTheReach, ReachIsCounted};
 
 use crate::Successors;
 
@@ -15,4 +15,9 @@ pub fn every_run_is_sound<G: Successors>()
 /// are exactly those that are reached from the first.
 pub fn quiet_lists_the_reach<G: Successors>()
     ensures { (g : G) → QuietListsTheReach (G.next g) }
+{}
+
+/// More than so many signatures are reached exactly where a list of all reached ones, each once, is longer.
+pub fn reach_is_counted<G: Successors>()
+    ensures { (g : G) → ReachIsCounted (G.next g) }
 {}

@@ -2,10 +2,11 @@
 ghost use Rattle.std.specs.Prelude.{◌≡◌, ℕ, List, IfOk, length};
 ghost use Rattle.std.specs.List.{All};
 ghost use Rattle.git_machine.specs.Signatures.{Signature};
+ghost use Rattle.git_machine.specs.declared.successors.CloseFault.TheVariants.{NoMemory};
 
 use crate::Sig;
 use git_base::NoMemory;
-use std::alloc::Global;
+use std::alloc::{AllocError, Global};
 
 /// A graph whose nodes are signatures of one width. Each legal signature leads to a list of others, its
 /// next, and has payloads.
@@ -79,8 +80,18 @@ pub enum CloseFault {
     NoMemory,
 }
 
-impl From<NoMemory> for CloseFault {
-    fn from(_fault: NoMemory) -> Self {
+impl From<git_base::NoMemory> for CloseFault {
+    ghost from_gives = { λ _ e. e ≡ NoMemory };
+
+    fn from(_fault: git_base::NoMemory) -> Self {
+        CloseFault::NoMemory
+    }
+}
+
+impl From<AllocError> for CloseFault {
+    ghost from_gives = { λ _ e. e ≡ NoMemory };
+
+    fn from(_error: AllocError) -> Self {
         CloseFault::NoMemory
     }
 }
