@@ -1,0 +1,13 @@
+pub mod Bits
+pub mod Blending
+pub mod Eliminating
+pub mod Ends
+pub mod Extends
+pub mod Finals
+pub mod Lates
+pub mod Makes
+pub mod Marking
+pub mod Nexts
+pub mod Progressing
+pub mod Readies
+pub mod Tightness

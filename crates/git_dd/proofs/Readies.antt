@@ -1,0 +1,52 @@
+-- What the blends of a stage need, and what is moved.
+use Rattle.std.proofs.Common.{◌≡◌, ℕ, ◌+◌, ◌*◌, ◌<◌, ◌≤◌, List, [], ◌∷◌, ◌++◌, length, take, get_or, sym, ◌∙◌, ap, subst, arith, inl, inr, length-take}
+use Rattle.std.proofs.lemmas.List.{take_more}
+use Rattle.std.proofs.lemmas.List.Elements.{All-contains, Contains-get_or}
+use Rattle.std.specs.Prelude.{All, Contains}
+use Rattle.git_defs.specs.Vectors.{Vector}
+use Rattle.git_lemmas.proofs.Members.{Member}
+use Rattle.git_lemmas.proofs.Members.{contains_member, all_member}
+use Rattle.git_geometry.specs.Stages.{Exact}
+use Rattle.git_stages.specs.Short.{IsShort}
+use Rattle.git_dd.proofs.Nexts.{vector_in, ray_in}
+use Rattle.git_dd.specs.Making.{IsSided}
+use Rattle.git_dd.specs.Marks.{IsRay, vectors}
+use Rattle.git_dd.specs.Sides.{IsMarkedRay, AreMarkedSides, IsFit, IsReady, IsMoved}
+use Rattle.git_dd.specs.declared.ray.Ray.{Ray}
+use Rattle.git_dd.specs.declared.stage.Sides.{Sides}
+
+pub last_is : (A : List Vector) (n : ℕ) (b : Vector) → n < length A → b ≡ get_or A n b → take (n + 1) A ≡ take n A ++ b ∷ []
+last_is A n b h is = take_more A n b h ∙ ap (λ (u : Vector). take n A ++ u ∷ []) (sym is)
+
+module _ (k : ℕ) (A : List Vector) (n : ℕ) (b : Vector) (width : ℕ) (rays : List Ray) (sides : Sides) (h : n < length A) (room : length A ≤ 64 * width) (short : All (IsShort k) A) (is : b ≡ get_or A n b)
+    (good : All (IsRay k (take n A) width) rays) (exact : Exact k (take n A) (vectors rays))
+    (sided : IsSided b (vectors rays) (vectors sides.above.items) (vectors sides.level.items) (vectors sides.below.items)) (marked : AreMarkedSides (take n A ++ b ∷ []) width sides) where
+  last : take (n + 1) A ≡ take n A ++ b ∷ []
+  last = last_is A n b h is
+
+  marked2 : AreMarkedSides (take (n + 1) A) width sides
+  marked2 = subst (λ (u : List Vector). AreMarkedSides u width sides) (sym last) marked
+
+  fit : (xs : List Ray) → All (IsMarkedRay (take (n + 1) A) width) xs → (r : Ray) → Contains xs r → Member r.vector (vectors rays) → IsFit k (take n A) (take (n + 1) A) width r
+  fit xs all r c m =
+      let q = ray_in rays r.vector m in
+      record {
+        short = subst (IsShort k) q.is (all_member (IsRay k (take n A) width) q.ray rays good q.member).short;
+        marked = All-contains (IsMarkedRay (take (n + 1) A) width) xs r all c;
+        inside = (exact.edges r.vector m).member;
+      }
+
+  pub ready : IsReady k (take n A) (take (n + 1) A) b width sides
+  ready = record {
+    last = last;
+    room = let e = length-take n A in omega (arith, e, h, room);
+    inequality = subst (IsShort k) (sym is) (short n b h);
+    marked = marked2;
+    above = λ r c. let s = sided.above_in r.vector (vector_in sides.above.items r (contains_member r sides.above.items c)) in (fit sides.above.items marked2.above r c s.0, s.1);
+    below = λ r c. let s = sided.below_in r.vector (vector_in sides.below.items r (contains_member r sides.below.items c)) in (fit sides.below.items marked2.below r c s.0, s.1);
+  }
+
+pub moved_all : (P : Ray → Type 0) (from old new : List Ray) → IsMoved from old new → All P old → All P from → All P new
+moved_all P from old new moved p q = λ i d h.
+    let x = get_or new i d in
+    elim ((moved.each x).0 (Contains-get_or new i d h)) [ inl c ↦ All-contains P old x p c | inr c ↦ All-contains P from x q c ]

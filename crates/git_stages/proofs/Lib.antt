@@ -1,0 +1,16 @@
+pub mod Fronts
+pub mod Listed
+pub mod Once
+pub mod Prepares
+pub mod Ranks
+pub mod Replaced
+pub mod Shorts
+pub mod Splits
+pub mod Steps
+pub mod Units
+pub mod Uniqueness
+pub mod Small
+pub mod Least
+pub mod SortedSets
+pub mod Exist
+pub mod Decided
