@@ -1,3 +1,1 @@
 pub mod Copies
-pub mod FaultLemmas
-pub mod FrontLemmas

@@ -1,4 +1,4 @@
 pub mod Faults
-pub mod Fronts
+pub mod Prefixes
 pub mod Memory
 pub mod Status

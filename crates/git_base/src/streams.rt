@@ -3,8 +3,8 @@ ghost use Rattle.std.specs.Prelude.{◌≡◌, ℕ, ◌<◌, ◌≤◌, List, le
 ghost use Rattle.std.specs.declared.option.Option.{Option};
 ghost use Rattle.std.specs.Io.{ReadsAtMost, WritesAtMost};
 ghost use Rattle.std.specs.Io.KnownBytes.{ReadConsumes, WriteAppends, Consumes, Appends, IsAtEnd};
-ghost use Rattle.git_base.specs.Faults.{HasCause, Rose};
-ghost use Rattle.git_base.specs.Fronts.{LosesFront, GrowsByFront};
+ghost use Rattle.git_base.specs.Faults.{HasCause, HasRisen};
+ghost use Rattle.git_base.specs.Prefixes.{LosesPrefix, GrowsByPrefix};
 
 use crate::{Failed, ReadError, WriteFault};
 use std::alloc::Global;
@@ -64,10 +64,10 @@ pub fn read_all<S: Source>(
     ensures within { IfOk result (λ v. length v.items ≤ limit) }
 
     ensures long { IsErrOf result ReadError.TooLong → IfSome (S.left source.old) (λ bs. limit < length bs) }
-    ensures fault { IsErrOf result ReadError.ReadFault → Rose (S.faults source.old) (S.faults source.new) }
+    ensures fault { IsErrOf result ReadError.ReadFault → HasRisen (S.faults source.old) (S.faults source.new) }
 
     // For every answer.
-    ensures lost { LosesFront (S.left source.old) (S.left source.new) }
+    ensures lost { LosesPrefix (S.left source.old) (S.left source.new) }
     ensures later { S.faults source.old ≤ S.faults source.new }
 {
     let mut bytes = Vec::new(alloc);
@@ -93,10 +93,10 @@ pub fn read_all<S: Source>(
 /// Refused with `WriteFault` where a write fails. The sink has then taken the bytes before it.
 pub fn write_all_of<K: Sink>(sink: &mut K, bytes: &[u8]) -> Result<(), WriteFault>
     ensures all { OnOk result (Appends (K.written sink.old) (K.written sink.new) bytes.now) }
-    ensures fault { OnErr result (Rose (K.faults sink.old) (K.faults sink.new)) }
+    ensures fault { OnErr result (HasRisen (K.faults sink.old) (K.faults sink.new)) }
 
     // For every answer.
-    ensures front { GrowsByFront (K.written sink.old) (K.written sink.new) bytes.now }
+    ensures prefix { GrowsByPrefix (K.written sink.old) (K.written sink.new) bytes.now }
     ensures later { K.faults sink.old ≤ K.faults sink.new }
 {
     let mut done = 0;

@@ -2,7 +2,7 @@
 use Rattle.std.specs.Prelude.{◌≡◌, ◌≢◌, ◌<◌, ◌≤◌, ◌<ℤ◌, ℕ, List, [], ◌∷◌, length, pos, Contains, All}
 use Rattle.git_defs.specs.Vectors.{Vector, HasRank, zero_vector, dot}
 use Rattle.git_defs.specs.Cones.{InCone, Cut, AreRays, AreFacets, SameSet, IsPointed}
-use Rattle.git_lemmas.proofs.Members.{Member}
+use Rattle.git_lemmas.specs.Members.{Member}
 use Rattle.git_geometry.specs.Zeros.{Dominates}
 use Rattle.git_stages.specs.Short.{IsShort}
 use Rattle.git_stages.specs.Wide.{IsWideAt}

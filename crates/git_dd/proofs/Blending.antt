@@ -4,7 +4,7 @@ use Rattle.std.proofs.Math.IntN.{pos}
 use Rattle.std.specs.Prelude.{◌↔◌, ◌<ℤ◌, All, Contains}
 use Rattle.std.proofs.lemmas.List.Elements.{All-push, All-same, Contains-push, Contains-push_cases, Contains-append_left}
 use Rattle.git_defs.specs.Vectors.{Vector, dot}
-use Rattle.git_lemmas.proofs.Members.{Member}
+use Rattle.git_lemmas.specs.Members.{Member}
 use Rattle.git_lemmas.proofs.Members.{contains_member, member_contains}
 use Rattle.git_geometry.specs.Zeros.{Adjacent}
 use Rattle.git_geometry.specs.Stages.{blend}

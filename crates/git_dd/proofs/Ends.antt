@@ -5,7 +5,7 @@ use Rattle.std.proofs.lemmas.List.Elements.{All-append, All-same}
 use Rattle.std.specs.Prelude.{All}
 use Rattle.git_defs.specs.Vectors.{Vector, HasRank}
 use Rattle.git_defs.specs.Cones.{Cut, IsPointed}
-use Rattle.git_lemmas.proofs.Members.{Member}
+use Rattle.git_lemmas.specs.Members.{Member}
 use Rattle.git_lemmas.proofs.Members.{all_member, member_all}
 use Rattle.git_geometry.specs.Stages.{Exact}
 use Rattle.git_stages.proofs.Ranks.{rank_is, rank_bound, rank_full}

@@ -4,7 +4,7 @@ use Rattle.std.proofs.lemmas.List.{take-append-drop}
 use Rattle.std.proofs.Math.Seq.{take-append-add}
 use Rattle.git_defs.specs.Vectors.{Vector}
 use Rattle.git_defs.specs.Cones.{Cut, IsPointed, AreRays}
-use Rattle.git_lemmas.proofs.Members.{Member}
+use Rattle.git_lemmas.specs.Members.{Member}
 use Rattle.git_lemmas.proofs.Members.{contains_member, member_contains}
 use Rattle.git_geometry.proofs.Cuts.{cut_same, cut_within}
 use Rattle.git_geometry.proofs.Facets.{rays_of_exact}

@@ -5,7 +5,7 @@ use Rattle.std.proofs.lemmas.List.{take_all}
 use Rattle.std.specs.Prelude.{All, Contains}
 use Rattle.git_defs.specs.Vectors.{Vector, units, HasRank}
 use Rattle.git_defs.specs.Cones.{Cut, IsPointed, SameSet}
-use Rattle.git_lemmas.proofs.Members.{Member}
+use Rattle.git_lemmas.specs.Members.{Member}
 use Rattle.git_defs.proofs.Lengths.{OfLength}
 use Rattle.git_lemmas.proofs.Members.{contains_member, all_member}
 use Rattle.git_geometry.proofs.Cuts.{cut_same}

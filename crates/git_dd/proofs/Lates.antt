@@ -2,7 +2,7 @@
 use Rattle.std.proofs.Common.{ℕ, zero, suc, ◌+◌, ◌<◌, ◌≤◌, List, [], ◌∷◌, length, take, drop, get_or, refl, arith, inl, inr, Some, None}
 use Rattle.std.specs.Prelude.{All}
 use Rattle.git_defs.specs.Vectors.{Vector}
-use Rattle.git_lemmas.proofs.Members.{Member}
+use Rattle.git_lemmas.specs.Members.{Member}
 use Rattle.git_defs.proofs.Lengths.{OfLength}
 use Rattle.git_lemmas.proofs.Members.{contains_member, member_contains}
 use Rattle.git_geometry.proofs.Facets.{rays_of_exact}

@@ -3,7 +3,7 @@ use Rattle.std.proofs.Common.{◌≡◌, ◌⊎◌, ℕ, ◌+◌, ◌<◌, List,
 use Rattle.std.proofs.Math.IntN.{pos}
 use Rattle.std.specs.Prelude.{◌<ℤ◌}
 use Rattle.git_defs.specs.Vectors.{Vector, dot}
-use Rattle.git_lemmas.proofs.Members.{Member}
+use Rattle.git_lemmas.specs.Members.{Member}
 use Rattle.git_geometry.specs.Zeros.{Flat, Adjacent, ZeroOnBoth}
 use Rattle.git_geometry.specs.Stages.{blend}
 use Rattle.git_geometry.proofs.Lists.{member_left, member_right, member_either}

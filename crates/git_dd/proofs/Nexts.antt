@@ -6,7 +6,7 @@ use Rattle.std.proofs.lemmas.Int.{ints}
 use Rattle.std.proofs.lemmas.List.{get_or-map, map-append, length-map}
 use Rattle.git_defs.specs.Vectors.{Vector, dot, zero_vector}
 use Rattle.git_defs.specs.Cones.{Cut, IsPointed}
-use Rattle.git_lemmas.proofs.Members.{Member}
+use Rattle.git_lemmas.specs.Members.{Member}
 use Rattle.git_geometry.specs.Zeros.{Adjacent, Flat, ZeroOnBoth}
 use Rattle.git_geometry.specs.Stages.{Exact, IsNext, IsBlended}
 use Rattle.git_geometry.proofs.Blends.{blend_some, blend_cut}

@@ -4,7 +4,7 @@ use Rattle.std.proofs.lemmas.List.{take_more}
 use Rattle.std.proofs.lemmas.List.Elements.{All-contains, Contains-get_or}
 use Rattle.std.specs.Prelude.{All, Contains}
 use Rattle.git_defs.specs.Vectors.{Vector}
-use Rattle.git_lemmas.proofs.Members.{Member}
+use Rattle.git_lemmas.specs.Members.{Member}
 use Rattle.git_lemmas.proofs.Members.{contains_member, all_member}
 use Rattle.git_geometry.specs.Stages.{Exact}
 use Rattle.git_stages.specs.Short.{IsShort}

@@ -2,7 +2,7 @@
 ghost use Rattle.std.specs.Prelude.{◌≡◌, ◌↔◌, ◌⊎◌, ◌<◌, ◌≤◌, ◌*◌, ◌+◌, ◌<ℤ◌, ◌≤ℤ◌, ℕ, List, ℤ, pos, All, IfOk, IsTrue, [], ◌∷◌, ◌++◌, length, get_or, take};
 ghost use Rattle.git_defs.specs.Vectors.{Vector, dot};
 ghost use Rattle.git_defs.specs.Cones.{Cut, IsPointed};
-ghost use Rattle.git_lemmas.proofs.Members.{Member};
+ghost use Rattle.git_lemmas.specs.Members.{Member};
 ghost use Rattle.git_geometry.specs.Zeros.{Flat, Adjacent, ZeroOnBoth};
 ghost use Rattle.git_geometry.specs.Stages.{blend, IsNext, Exact};
 ghost use Rattle.git_ints.specs.Content.{IsPrimitivePart};

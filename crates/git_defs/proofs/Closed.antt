@@ -4,17 +4,10 @@ use Rattle.std.proofs.Math.IntN.{ℤ, pos, negsuc}
 use Rattle.std.specs.Prelude.{◌≤ℤ◌, ◌<ℤ◌}
 use Rattle.std.proofs.lemmas.Int.{ints}
 use Rattle.git_defs.specs.Vectors.{Vector, zero_vector, scale, plus, combination}
-use Rattle.git_defs.specs.Cones.{InCone}
-use Rattle.git_lemmas.proofs.Members.{Member}
+use Rattle.git_defs.specs.Cones.{InCone, IsClosed}
+use Rattle.git_lemmas.specs.Members.{Member}
 use Rattle.git_defs.proofs.Lengths.{OfLength, rest_of_length}
 use Rattle.git_defs.proofs.Sums.{cone_plus, cone_scale, cone_divide, cone_zero, cone_first, cone_later}
-
-pub record IsClosed (k : ℕ) (D : Vector → Type 0) : Type 0 where
-  pub entries : (x : Vector) → D x → length x ≡ k
-  pub none : D (zero_vector k)
-  pub sums : (x y : Vector) → D x → D y → D (plus x y)
-  pub multiples : (c : ℤ) (x : Vector) → pos 0 ≤ℤ c → D x → D (scale c x)
-  pub quotients : (c : ℤ) (x : Vector) → pos 0 <ℤ c → D (scale c x) → D x
 
 pub cone_closed : (k : ℕ) (vs : List Vector) → OfLength k vs → IsClosed k (InCone k vs)
 cone_closed k vs have = record {

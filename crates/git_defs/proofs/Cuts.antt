@@ -6,7 +6,8 @@ use Rattle.git_defs.specs.Vectors.{Vector, AllOfLength, dot}
 use Rattle.git_defs.specs.Cones.{InCone, Cut, Dual, SameSet}
 use Rattle.git_defs.proofs.Linear.{dot-comm, cone_beside}
 use Rattle.git_defs.proofs.Closed.{cone_has}
-use Rattle.git_lemmas.proofs.Members.{Member, contains_member, member_contains}
+use Rattle.git_lemmas.specs.Members.{Member}
+use Rattle.git_lemmas.proofs.Members.{contains_member, member_contains}
 use Rattle.git_defs.proofs.Lengths.{all_of_length}
 
 -- a member of the inequalities is not negative on what they cut out

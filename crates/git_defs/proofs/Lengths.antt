@@ -1,6 +1,7 @@
 -- Lists of vectors of one length.
 use Rattle.std.proofs.Common.{◌≡◌, ℕ, List, [], ◌∷◌, length, refl, subst, inl, inr}
-use Rattle.git_lemmas.proofs.Members.{Member, all_member, member_all}
+use Rattle.git_lemmas.specs.Members.{Member}
+use Rattle.git_lemmas.proofs.Members.{all_member, member_all}
 use Rattle.git_defs.specs.Vectors.{Vector, AllOfLength}
 
 -- all members have k entries

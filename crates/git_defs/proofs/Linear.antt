@@ -5,7 +5,7 @@ use Rattle.std.specs.Prelude.{◌≤ℤ◌}
 use Rattle.std.proofs.lemmas.Int.{ints}
 use Rattle.git_defs.specs.Vectors.{Vector, zero_vector, scale, plus, dot, combination}
 use Rattle.git_defs.specs.Cones.{InCone}
-use Rattle.git_lemmas.proofs.Members.{Member}
+use Rattle.git_lemmas.specs.Members.{Member}
 use Rattle.git_defs.proofs.Lengths.{OfLength, first_of_length, rest_of_length}
 use Rattle.git_lemmas.proofs.Integers.{mul_comm, diff, diff_add, diff_mul, diff_same, add_nonneg, mul_nonneg, nonneg_of_mul}
 

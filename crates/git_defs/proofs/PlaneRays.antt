@@ -8,7 +8,8 @@ use borrow.Author.Differences.{product_is}
 use Rattle.git_defs.specs.Vectors.{Vector, scale, plus, dot, units, Precedes, IsPrimitive}
 use Rattle.git_defs.specs.Cones.{InCone, OnRay, IsEdge, IsExtreme, AreRays}
 use Rattle.git_lemmas.proofs.Integers.{diff, diff_add, diff_mul, diff_same}
-use Rattle.git_lemmas.proofs.Members.{Member, contains_member, member_contains}
+use Rattle.git_lemmas.specs.Members.{Member}
+use Rattle.git_lemmas.proofs.Members.{contains_member, member_contains}
 use Rattle.git_defs.proofs.Lengths.{OfLength, more_of_length, none_of_length}
 use Rattle.git_defs.proofs.Linear.{cone_beside}
 

@@ -1,5 +1,5 @@
 -- Cones of integer vectors, as sets of vectors, and their extreme vectors.
-use Rattle.std.specs.Prelude.{◌≡◌, ◌≢◌, ◌↔◌, ℕ, ◌<◌, List, pos, ◌≤ℤ◌, length, map, Contains, AllPairs}
+use Rattle.std.specs.Prelude.{◌≡◌, ◌≢◌, ◌↔◌, ℕ, ◌<◌, List, ℤ, pos, ◌≤ℤ◌, ◌<ℤ◌, length, map, Contains, AllPairs}
 use Rattle.git_defs.specs.Vectors.{Vector, zero_vector, scale, plus, dot, combination, IsPrimitive, Precedes}
 
 -- x is in the cone of the generators: a positive multiple of x is their sum with natural numbers
@@ -55,3 +55,11 @@ pub record AreRays (k : ℕ) (C : Vector → Type 0) (rays : List Vector) : Type
 -- the extreme normals of C, in order
 abbrev pub AreFacets : ℕ → (Vector → Type 0) → List Vector → Type 0
 AreFacets k C normals = AreRays k (Dual k C) normals
+
+-- a set of vectors of k entries that has 0, sums, multiples by numbers that are not negative, and quotients by positive ones
+pub record IsClosed (k : ℕ) (D : Vector → Type 0) : Type 0 where
+  pub entries : (x : Vector) → D x → length x ≡ k
+  pub none : D (zero_vector k)
+  pub sums : (x y : Vector) → D x → D y → D (plus x y)
+  pub multiples : (c : ℤ) (x : Vector) → pos 0 ≤ℤ c → D x → D (scale c x)
+  pub quotients : (c : ℤ) (x : Vector) → pos 0 <ℤ c → D (scale c x) → D x

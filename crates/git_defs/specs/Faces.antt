@@ -14,13 +14,13 @@ abbrev pub face_cone : ℕ → List Vector → ℕ → Vector → Type 0
 face_cone k columns mask = InCone k (face columns mask)
 
 -- k columns of the face are independent
-abbrev pub IsFull : ℕ → List Vector → ℕ → Type 0
-IsFull k columns mask = HasRank k (face columns mask)
+abbrev pub IsFullDimensional : ℕ → List Vector → ℕ → Type 0
+IsFullDimensional k columns mask = HasRank k (face columns mask)
 
 -- a full face that the test accepts; the test is that of a-faces where an ideal is given
 pub record IsConeFace (k : ℕ) (columns : List Vector) (accepted : ℕ → Type 0) (mask : ℕ) : Type 0 where
   pub in_range : mask < 2 ^ length columns
-  pub full : IsFull k columns mask
+  pub full : IsFullDimensional k columns mask
   pub is_accepted : accepted mask
 
 -- the two faces have one cone

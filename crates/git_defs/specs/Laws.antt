@@ -1,7 +1,12 @@
 -- What the definitions have to mean, as the laws of this crate say it.
-use Rattle.std.specs.Prelude.{ℕ, List, [], ◌∷◌, ℤ, pos, ◌≤ℤ◌, Contains}
+use Rattle.std.specs.Prelude.{ℕ, List, [], ◌∷◌, ℤ, pos, ◌≤ℤ◌, ◌↔◌, Contains}
+use Rattle.git_lemmas.specs.Members.{Member}
 use Rattle.git_defs.specs.Vectors.{Vector, AllOfLength, scale, plus, units}
 use Rattle.git_defs.specs.Cones.{InCone, Cut, Dual, SameSet, AreRays}
+
+-- the members of a list of vectors by recursion are those by place
+abbrev pub MembersAreContained : Type 0
+MembersAreContained = (x : Vector) (vs : List Vector) → Member x vs ↔ Contains vs x
 
 -- a cone holds the sum of two of its vectors
 abbrev pub ConesHoldSums : Type 0

@@ -53,10 +53,11 @@ Precedes v w = slice_cmp int_cmp v w ≡ Less
 abbrev pub AreIndependent : ℕ → List Vector → Type 0
 AreIndependent k vs = (cs : List ℤ) → length cs ≡ length vs → combination k cs vs ≡ zero_vector k → All (λ c. c ≡ pos 0) cs
 
--- some k of the vectors are independent
+-- some k of the vectors, each of k entries, are independent
 pub record HasRank (k : ℕ) (vs : List Vector) : Type 0 where
   pub chosen : List Vector
   pub from : All (Contains vs) chosen
+  pub entries : AllOfLength k chosen
   pub count : length chosen ≡ k
   pub independent : AreIndependent k chosen
 

@@ -1,9 +1,14 @@
-//! The definitions on which the program's promises rest: integer vectors, cones, faces, chambers and
-//! the listing. Nothing stands below this crate but the library. It holds no code: each function is a
-//! law, whose contract says that the definitions mean what their names say.
+//! The definitions on which the program's promises rest: integer vectors, cones, faces and chambers.
+//! Below it stand shared lemmas and the bits of masks. It holds no code: each function is a law, whose
+//! contract says that the definitions mean what their names say.
 #![tactic(auto)]
 
-ghost use Rattle.git_defs.specs.Laws.{ConesHoldSums, ConesHoldMultiples, ConesHoldGenerators, CutIsDual, QuadrantHasUnitRays};
+ghost use Rattle.git_defs.specs.Laws.{MembersAreContained, ConesHoldSums, ConesHoldMultiples, ConesHoldGenerators, CutIsDual, QuadrantHasUnitRays};
+
+/// A vector is a member of a list exactly where the list contains it at some place.
+pub fn members_are_contained()
+    ensures { MembersAreContained }
+{}
 
 /// A cone holds the sums of its vectors.
 pub fn cone_sums()

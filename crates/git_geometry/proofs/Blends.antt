@@ -4,13 +4,13 @@ use Rattle.std.proofs.Math.IntN.{◌+ℤ◌, ◌*ℤ◌, neg_ℤ, negsuc, pos, �
 use Rattle.std.proofs.lemmas.Int.{ints}
 use Rattle.std.specs.Prelude.{◌<ℤ◌, ◌≤ℤ◌}
 use borrow.Author.Differences.{up}
-use Rattle.git_defs.proofs.Closed.{IsClosed, positive_or_zero, sign_of}
+use Rattle.git_defs.specs.Cones.{IsClosed, Cut, InCone, IsPointed}
+use Rattle.git_defs.proofs.Closed.{positive_or_zero, sign_of}
 use Rattle.git_lemmas.proofs.Integers.{add_nonneg, diff, diff_add, diff_mul, diff_neg, diff_same, mul_nonneg, nonpos_mul, zero_of_mul}
 use Rattle.git_defs.proofs.Linear.{dot-plus, dot-scale, dot-zero, length-plus, length-scale, length-zero}
-use Rattle.git_lemmas.proofs.Members.{Member}
+use Rattle.git_lemmas.specs.Members.{Member}
 use Rattle.git_defs.proofs.Lengths.{OfLength}
 use Rattle.git_defs.proofs.Sums.{plus-zero, scale-zero, scale_none, zero-plus}
-use Rattle.git_defs.specs.Cones.{Cut, InCone, IsPointed}
 use Rattle.git_defs.specs.Vectors.{Vector, combination, dot, plus, scale, zero_vector}
 use Rattle.git_geometry.proofs.Cuts.{cut_closed, cut_of, side_at}
 use Rattle.git_geometry.proofs.Identities.{blend_left, blend_right, blend_scaled, blend_scaled_right, mix, plus-assoc, plus-comm}

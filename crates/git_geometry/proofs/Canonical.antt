@@ -1,6 +1,6 @@
 -- The rays of a cone among its generators, by its facets.
 use Rattle.std.proofs.Common.{◌≡◌, List, ℕ}
-use Rattle.git_lemmas.proofs.Members.{Member}
+use Rattle.git_lemmas.specs.Members.{Member}
 use Rattle.git_defs.proofs.Lengths.{OfLength}
 use Rattle.git_defs.specs.Cones.{Cut, IsEdge, IsPointed, OnRay}
 use Rattle.git_defs.specs.Vectors.{IsPrimitive, Vector, zero_vector}

@@ -3,12 +3,11 @@ use Rattle.std.proofs.Common.{◌≡◌, ◌∙◌, ◌∷◌, List, arith, inl,
 use Rattle.std.proofs.Math.IntN.{◌*ℤ◌, negsuc, pos, ℤ}
 use Rattle.std.proofs.lemmas.Int.{ints}
 use Rattle.std.specs.Prelude.{◌<ℤ◌, ◌≤ℤ◌}
-use Rattle.git_defs.proofs.Closed.{IsClosed}
+use Rattle.git_defs.specs.Cones.{IsClosed, Cut, SameSet}
 use Rattle.git_defs.proofs.Cuts.{cut_from, cut_side}
 use Rattle.git_lemmas.proofs.Integers.{add_nonneg, mul_nonneg, nonneg_of_mul}
 use Rattle.git_defs.proofs.Linear.{dot-plus, dot-scale, dot-zero, length-plus, length-scale, length-zero}
-use Rattle.git_lemmas.proofs.Members.{Member}
-use Rattle.git_defs.specs.Cones.{Cut, SameSet}
+use Rattle.git_lemmas.specs.Members.{Member}
 use Rattle.git_defs.specs.Vectors.{Vector, dot}
 
 -- the sides of a cut and a cut by its sides, with the arguments that the types show

@@ -3,7 +3,7 @@ use Rattle.std.proofs.Common.{◌≡◌, ◌⊎◌, ◌∷◌, [], Bool, List, a
 use Rattle.std.proofs.Math.IntN.{◌-ℤ◌, negsuc, pos, ℤ}
 use Rattle.std.proofs.lemmas.Int.{ints}
 use Rattle.std.specs.Prelude.{if◌then◌else◌}
-use Rattle.git_lemmas.proofs.Members.{Member}
+use Rattle.git_lemmas.specs.Members.{Member}
 use Rattle.git_defs.specs.Vectors.{Vector, dot}
 use Rattle.git_geometry.proofs.Identities.{head_same, tail_same}
 use Rattle.git_geometry.specs.Zeros.{AreUndominated, Dominates}

@@ -5,12 +5,12 @@ use Rattle.std.proofs.lemmas.Bool.{cases_lt}
 use Rattle.std.proofs.lemmas.Int.{ints}
 use Rattle.std.specs.Prelude.{◌≤ℤ◌}
 use borrow.Author.Differences.{product_is, up}
-use Rattle.git_defs.proofs.Closed.{IsClosed, closed_combination, closed_cone, cone_closed, cone_has}
+use Rattle.git_defs.specs.Cones.{IsClosed, Cut, InCone, IsEdge, IsPointed, OnRay}
+use Rattle.git_defs.proofs.Closed.{closed_combination, closed_cone, cone_closed, cone_has}
 use Rattle.git_defs.proofs.Linear.{dot-plus, dot-scale, length-plus, length-scale, length-zero}
-use Rattle.git_lemmas.proofs.Members.{Member}
+use Rattle.git_lemmas.specs.Members.{Member}
 use Rattle.git_defs.proofs.Lengths.{OfLength, more_of_length, rest_of_length}
 use Rattle.git_defs.proofs.Sums.{plus-zero, scale-plus, scale-scale, scale_none, zero-plus}
-use Rattle.git_defs.specs.Cones.{Cut, InCone, IsEdge, IsPointed, OnRay}
 use Rattle.git_defs.specs.Vectors.{Vector, combination, dot, plus, scale, zero_vector}
 use Rattle.git_geometry.proofs.Cuts.{cut_closed, cut_of, side_at}
 use Rattle.git_geometry.proofs.Faces.{FaceIn, face_closed, flat_left}

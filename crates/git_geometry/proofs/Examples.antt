@@ -11,7 +11,7 @@ use Rattle.std.specs.Prelude.{◌≤ℤ◌, if◌then◌else◌}
 use borrow.Author.Differences.{up}
 use Rattle.git_defs.proofs.Closed.{closed_cone, cone_closed, cone_has, sign_of}
 use Rattle.git_lemmas.proofs.Integers.{diff, diff_add, diff_mul, diff_same, diff_sub}
-use Rattle.git_lemmas.proofs.Members.{Member}
+use Rattle.git_lemmas.specs.Members.{Member}
 use Rattle.git_defs.proofs.Lengths.{OfLength, rest_of_length}
 use Rattle.git_defs.specs.Cones.{AreFacets, AreRays, Cut, Dual, InCone}
 use Rattle.git_defs.specs.Vectors.{IsPrimitive, Precedes, Vector, combination, dot, scale, units}

@@ -2,7 +2,8 @@
 use Rattle.std.proofs.Common.{◌≡◌, ◌∷◌, ◌↔◌, Contains, List, ℕ}
 use Rattle.std.proofs.Math.IntN.{pos}
 use Rattle.std.specs.Prelude.{◌<ℤ◌}
-use Rattle.git_lemmas.proofs.Members.{Member, contains_member, member_contains}
+use Rattle.git_lemmas.specs.Members.{Member}
+use Rattle.git_lemmas.proofs.Members.{contains_member, member_contains}
 use Rattle.git_defs.specs.Cones.{Cut, IsEdge, IsExtreme, IsPointed, OnRay}
 use Rattle.git_defs.specs.Vectors.{IsPrimitive, Vector, dot, zero_vector}
 use Rattle.git_geometry.proofs.Edges.{dominator_on_edge, edge_of_alone}

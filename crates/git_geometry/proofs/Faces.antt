@@ -3,11 +3,11 @@ use Rattle.std.proofs.Common.{◌≡◌, ◌∙◌, List, ap, arith, inl, inr, s
 use Rattle.std.proofs.Math.IntN.{◌*ℤ◌, pos, ℤ}
 use Rattle.std.proofs.lemmas.Int.{ints}
 use Rattle.std.specs.Prelude.{◌<ℤ◌}
-use Rattle.git_defs.proofs.Closed.{IsClosed, positive_or_zero}
+use Rattle.git_defs.specs.Cones.{IsClosed, Cut}
+use Rattle.git_defs.proofs.Closed.{positive_or_zero}
 use Rattle.git_lemmas.proofs.Integers.{diff, diff_mul, diff_same, zero_of_mul}
 use Rattle.git_defs.proofs.Linear.{dot-plus, dot-scale}
 use Rattle.git_defs.proofs.Sums.{scale_none}
-use Rattle.git_defs.specs.Cones.{Cut}
 use Rattle.git_defs.specs.Vectors.{Vector, dot, plus, scale}
 use Rattle.git_geometry.proofs.Cuts.{cut_closed, side_at}
 use Rattle.git_geometry.specs.Zeros.{Flat}

@@ -3,12 +3,13 @@ use Rattle.std.proofs.Common.{◌≡◌, ◌∙◌, ◌↔◌, AllPairs, Contain
 use Rattle.std.proofs.Math.IntN.{pos, ℤ}
 use Rattle.std.proofs.lemmas.Int.{ints}
 use Rattle.std.specs.Prelude.{◌≤ℤ◌}
-use Rattle.git_defs.proofs.Closed.{IsClosed, cone_has}
+use Rattle.git_defs.specs.Cones.{IsClosed, AreFacets, AreRays, Cut, Dual, InCone, IsEdge, IsExtreme, IsPointed, OnRay, SameSet}
+use Rattle.git_defs.proofs.Closed.{cone_has}
 use Rattle.git_defs.proofs.Linear.{cone_beside, dot-comm}
-use Rattle.git_lemmas.proofs.Members.{Member, contains_member, member_contains}
+use Rattle.git_lemmas.specs.Members.{Member}
+use Rattle.git_lemmas.proofs.Members.{contains_member, member_contains}
 use Rattle.git_defs.proofs.Lengths.{OfLength}
 use Rattle.git_defs.proofs.Sums.{scale-one, scale-zero}
-use Rattle.git_defs.specs.Cones.{AreFacets, AreRays, Cut, Dual, InCone, IsEdge, IsExtreme, IsPointed, OnRay, SameSet}
 use Rattle.git_defs.specs.Vectors.{HasRank, IsPrimitive, Precedes, Vector, scale, zero_vector}
 use Rattle.git_geometry.proofs.Canonical.{undominated_exact}
 use Rattle.git_geometry.proofs.Cuts.{cut_closed, cut_of, side_at}

@@ -8,7 +8,8 @@ use borrow.Author.Differences.{product_is, up}
 use Rattle.git_defs.proofs.Closed.{closed_cone, cone_closed, cone_has, sign_of}
 use Rattle.git_lemmas.proofs.Integers.{diff, diff_add, diff_mul, diff_neg, diff_same, mul_comm}
 use Rattle.git_defs.proofs.Linear.{dot-comm, dot-plus, dot-scale, length-plus, length-scale}
-use Rattle.git_lemmas.proofs.Members.{Member, contains_member, member_contains}
+use Rattle.git_lemmas.specs.Members.{Member}
+use Rattle.git_lemmas.proofs.Members.{contains_member, member_contains}
 use Rattle.git_defs.proofs.Lengths.{OfLength, rest_of_length}
 use Rattle.git_defs.specs.Cones.{InCone}
 use Rattle.git_defs.specs.Vectors.{Vector, dot, plus, scale}

@@ -7,7 +7,8 @@ use Rattle.std.specs.Int.RustNames.{unsigned_abs}
 use Rattle.std.specs.Prelude.{◌<ℤ◌, ◌≤ℤ◌}
 use Rattle.git_defs.proofs.Closed.{closed_cone, positive_or_zero}
 use Rattle.git_defs.proofs.Linear.{dot-comm, dot-plus, dot-scale, dot-zero, length-plus, length-scale, length-zero}
-use Rattle.git_lemmas.proofs.Members.{Member, all_member, member_all}
+use Rattle.git_lemmas.specs.Members.{Member}
+use Rattle.git_lemmas.proofs.Members.{all_member, member_all}
 use Rattle.git_defs.proofs.Lengths.{OfLength, all_of_length, first_of_length, rest_of_length}
 use Rattle.git_defs.specs.Cones.{Cut}
 use Rattle.git_defs.specs.Vectors.{HasRank, Vector, dot, plus, scale, units, vector_sum, zero_vector}

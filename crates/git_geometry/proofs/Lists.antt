@@ -1,6 +1,6 @@
 -- Members of lists that are joined, mapped, or taken apart into one member and the others.
 use Rattle.std.proofs.Common.{◌≡◌, ◌⊎◌, ◌∷◌, ◌++◌, [], List, ap, inl, inr, map, refl, subst, suc}
-use Rattle.git_lemmas.proofs.Members.{Member}
+use Rattle.git_lemmas.specs.Members.{Member}
 use Rattle.git_defs.specs.Vectors.{Vector}
 use Rattle.git_geometry.specs.Elimination.{IsPick}
 

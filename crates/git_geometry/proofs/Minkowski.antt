@@ -6,7 +6,7 @@ use Rattle.std.specs.Prelude.{◌<ℤ◌, ◌≤ℤ◌}
 use borrow.Author.Differences.{up}
 use Rattle.git_defs.proofs.Closed.{closed_cone, cone_closed, cone_has, sign_of}
 use Rattle.git_defs.proofs.Linear.{dot-comm}
-use Rattle.git_lemmas.proofs.Members.{Member}
+use Rattle.git_lemmas.specs.Members.{Member}
 use Rattle.git_defs.proofs.Lengths.{OfLength, of_length_all}
 use Rattle.git_defs.specs.Cones.{Cut, InCone, SameSet}
 use Rattle.git_defs.specs.Vectors.{Vector, dot, units, zero_vector}

@@ -8,7 +8,7 @@ use borrow.Author.Differences.{up}
 use Rattle.git_defs.proofs.Closed.{closed_cone, cone_closed, cone_has, positive_or_zero, sign_of}
 use Rattle.git_lemmas.proofs.Integers.{mul_pos}
 use Rattle.git_defs.proofs.Linear.{dot-plus, dot-scale, length-scale}
-use Rattle.git_lemmas.proofs.Members.{Member}
+use Rattle.git_lemmas.specs.Members.{Member}
 use Rattle.git_defs.proofs.Lengths.{OfLength}
 use Rattle.git_defs.proofs.Sums.{plus-zero, scale-scale, scale_none}
 use Rattle.git_defs.specs.Cones.{Cut, InCone, IsEdge, IsPointed, OnRay}

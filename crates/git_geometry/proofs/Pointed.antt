@@ -4,7 +4,7 @@ use Rattle.std.proofs.Math.IntN.{◌*ℤ◌, pos, ℤ}
 use Rattle.std.specs.Prelude.{SomeIndex}
 use Rattle.git_lemmas.proofs.Integers.{mul_comm}
 use Rattle.git_defs.proofs.Linear.{length-zero}
-use Rattle.git_lemmas.proofs.Members.{Member}
+use Rattle.git_lemmas.specs.Members.{Member}
 use Rattle.git_defs.proofs.Lengths.{OfLength, first_of_length, rest_of_length}
 use Rattle.git_defs.proofs.Sums.{adds, combination-adds, combination-times, length-adds, length-times, plus-zero, scale-plus, scale-scale, scale-zero, scale_none, times}
 use Rattle.git_defs.specs.Cones.{InCone, IsPointed}

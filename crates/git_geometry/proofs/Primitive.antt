@@ -8,7 +8,7 @@ use Rattle.std.specs.Int.{◌∣◌, IsGcd}
 use Rattle.std.specs.Int.RustNames.{int_div, int_rem, unsigned_abs}
 use borrow.Author.Differences.{down, product_is, up}
 use Rattle.git_lemmas.proofs.Integers.{mul_comm}
-use Rattle.git_lemmas.proofs.Members.{Member}
+use Rattle.git_lemmas.specs.Members.{Member}
 use Rattle.git_defs.proofs.Sums.{scale-scale, scale-zero, scale_none}
 use Rattle.git_defs.specs.Vectors.{IsPrimitive, Vector, scale, zero_vector}
 use Rattle.git_geometry.proofs.Identities.{head_same, tail_same}

@@ -4,13 +4,13 @@ use Rattle.std.proofs.Math.IntN.{◌+ℤ◌, negsuc, pos, pos-*ℤ-pos, ℤ}
 use Rattle.std.proofs.Math.Nat.{mul-le-mul}
 use Rattle.std.proofs.lemmas.Int.{ints}
 use Rattle.std.specs.Prelude.{◌<ℤ◌, ◌≤ℤ◌}
-use Rattle.git_defs.proofs.Closed.{IsClosed, closed_cone}
+use Rattle.git_defs.specs.Cones.{IsClosed, AreRays, Cut, Dual, InCone, IsEdge, IsExtreme, IsPointed, OnRay, SameSet}
+use Rattle.git_defs.proofs.Closed.{closed_cone}
 use Rattle.git_defs.proofs.Cuts.{cut_is_dual}
 use Rattle.git_defs.proofs.Linear.{length-scale, length-zero}
-use Rattle.git_lemmas.proofs.Members.{Member}
+use Rattle.git_lemmas.specs.Members.{Member}
 use Rattle.git_defs.proofs.Lengths.{OfLength, of_length_all}
 use Rattle.git_defs.proofs.Sums.{plus-scales, plus-zero, scale-one, scale-plus, scale-scale, scale-zero, scale_none}
-use Rattle.git_defs.specs.Cones.{AreRays, Cut, Dual, InCone, IsEdge, IsExtreme, IsPointed, OnRay, SameSet}
 use Rattle.git_defs.specs.Vectors.{IsPrimitive, Vector, combination, plus, scale, zero_vector}
 use Rattle.git_geometry.proofs.Identities.{plus-assoc, plus-comm}
 use Rattle.git_geometry.proofs.Primitive.{primitive_once, vanish}

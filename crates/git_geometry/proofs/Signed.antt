@@ -3,10 +3,11 @@ use Rattle.std.proofs.Common.{◌≡◌, ◌<◌, ◌∙◌, ◌∷◌, [], List
 use Rattle.std.proofs.Math.IntN.{◌+ℤ◌, ◌*ℤ◌, neg_ℤ, negsuc, pos, ℤ}
 use Rattle.std.proofs.lemmas.Int.{ints}
 use borrow.Author.Differences.{up}
-use Rattle.git_defs.proofs.Closed.{IsClosed, closed_combination, closed_cone, cone_closed, cone_has, sign_of}
+use Rattle.git_defs.specs.Cones.{IsClosed}
+use Rattle.git_defs.proofs.Closed.{closed_combination, closed_cone, cone_closed, cone_has, sign_of}
 use Rattle.git_lemmas.proofs.Integers.{diff, diff_add, diff_mul, diff_neg, diff_same}
 use Rattle.git_defs.proofs.Linear.{length-scale}
-use Rattle.git_lemmas.proofs.Members.{Member}
+use Rattle.git_lemmas.specs.Members.{Member}
 use Rattle.git_defs.proofs.Lengths.{OfLength, rest_of_length}
 use Rattle.git_defs.proofs.Sums.{scale-plus, scale-scale, scale-zero}
 use Rattle.git_defs.specs.Vectors.{Vector, combination, plus, scale}

@@ -5,7 +5,8 @@ use Rattle.std.proofs.lemmas.Int.{ints}
 use Rattle.std.proofs.lemmas.List.{length-map}
 use Rattle.std.specs.Prelude.{◌<ℤ◌, ◌≤ℤ◌}
 use Rattle.git_defs.proofs.Linear.{dot-plus, dot-scale, dot-zero, length-plus, length-scale, length-zero}
-use Rattle.git_lemmas.proofs.Members.{Member, all_member, member_all}
+use Rattle.git_lemmas.specs.Members.{Member}
+use Rattle.git_lemmas.proofs.Members.{all_member, member_all}
 use Rattle.git_defs.proofs.Lengths.{OfLength, first_of_length, rest_of_length}
 use Rattle.git_defs.specs.Cones.{Cut, SameSet}
 use Rattle.git_defs.specs.Vectors.{Vector, dot, scale}

@@ -5,7 +5,8 @@ use Rattle.std.specs.Cmp.Lexicographic.{lists_total, slice_cmp}
 use Rattle.std.specs.Ordering.{int_cmp, ordering_reverse}
 use Rattle.std.specs.declared.cmp.Ordering.{Ordering}
 use Rattle.std.specs.declared.cmp.Ordering.TheVariants.{Equal, Greater, Less}
-use Rattle.git_lemmas.proofs.Members.{Member, contains_member, member_contains}
+use Rattle.git_lemmas.specs.Members.{Member}
+use Rattle.git_lemmas.proofs.Members.{contains_member, member_contains}
 use Rattle.git_defs.specs.Cones.{AreRays}
 use Rattle.git_defs.specs.Vectors.{Precedes, Vector}
 use Rattle.git_lemmas.proofs.Sorting.{not_self, Ascends, once, ascends_of_pairs}

@@ -4,11 +4,11 @@ use Rattle.std.proofs.Math.IntN.{pos, pos-*ℤ-pos, ℤ}
 use Rattle.std.proofs.lemmas.Int.{ints}
 use Rattle.std.specs.Prelude.{◌<ℤ◌, ◌≤ℤ◌}
 use borrow.Author.Differences.{up}
-use Rattle.git_defs.proofs.Closed.{IsClosed, cone_closed, cone_has}
-use Rattle.git_lemmas.proofs.Members.{Member}
+use Rattle.git_defs.specs.Cones.{IsClosed, Cut, InCone, IsEdge, IsExtreme, IsPointed, OnRay, SameSet}
+use Rattle.git_defs.proofs.Closed.{cone_closed, cone_has}
+use Rattle.git_lemmas.specs.Members.{Member}
 use Rattle.git_defs.proofs.Lengths.{OfLength}
 use Rattle.git_defs.proofs.Sums.{scale-one, scale-scale, scale-zero}
-use Rattle.git_defs.specs.Cones.{Cut, InCone, IsEdge, IsExtreme, IsPointed, OnRay, SameSet}
 use Rattle.git_defs.specs.Vectors.{Vector, dot, scale}
 use Rattle.git_geometry.proofs.Blends.{blend_cut, blend_some, one_more}
 use Rattle.git_geometry.proofs.Cuts.{cut_closed, cut_more, cut_with, side_at}

@@ -2,10 +2,11 @@
 use Rattle.std.proofs.Common.{◌≡◌, ◌∙◌, ◌∷◌, [], List, ap, arith, inl, inr, length, map, refl, subst, suc, sym, zero, ℕ}
 use Rattle.std.proofs.Math.IntN.{◌+ℤ◌, ◌*ℤ◌, *ℤ-zero, +ℤ_idl, +ℤ_idr, negsuc, pos, ℤ}
 use Rattle.std.proofs.lemmas.List.{length-map}
-use Rattle.git_defs.proofs.Closed.{IsClosed, closed_cone, cone_closed, cone_has}
+use Rattle.git_defs.specs.Cones.{IsClosed}
+use Rattle.git_defs.proofs.Closed.{closed_cone, cone_closed, cone_has}
 use Rattle.git_lemmas.proofs.Integers.{diff, diff_add, diff_mul, diff_same}
 use Rattle.git_defs.proofs.Linear.{dot-zero, length-zero}
-use Rattle.git_lemmas.proofs.Members.{Member}
+use Rattle.git_lemmas.specs.Members.{Member}
 use Rattle.git_defs.proofs.Lengths.{OfLength}
 use Rattle.git_defs.proofs.Sums.{scale-zero, zero-plus}
 use Rattle.git_defs.specs.Vectors.{Vector, combination, dot, plus, scale, units, zero_vector}

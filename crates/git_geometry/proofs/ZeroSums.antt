@@ -6,7 +6,7 @@ use Rattle.std.proofs.lemmas.Int.{ints}
 use Rattle.git_defs.specs.Vectors.{Vector, zero_vector, scale, plus, dot, combination, HasZeroSum}
 use Rattle.git_defs.specs.Cones.{InCone}
 use Rattle.git_lemmas.proofs.Integers.{diff, diff_add, diff_mul, diff_same, mul_nonneg, mul_pos}
-use Rattle.git_lemmas.proofs.Members.{Member}
+use Rattle.git_lemmas.specs.Members.{Member}
 use Rattle.git_defs.proofs.Lengths.{OfLength, first_of_length, rest_of_length}
 use Rattle.git_defs.proofs.Linear.{dot-plus, dot-scale, dot-zero, length-scale, length-zero, length-combination, combination_beside}
 use Rattle.git_defs.proofs.Sums.{scale-plus, scale-zero, scale_none, plus-zero}

@@ -1,8 +1,7 @@
 -- Double description: from the extreme vectors of a cone to those after one inequality more.
 use Rattle.std.specs.Prelude.{◌≤ℤ◌, ◌<ℤ◌, ◌↔◌, ℕ, List, ◌∷◌, pos, Contains}
 use Rattle.git_defs.specs.Vectors.{Vector, dot, AllOfLength}
-use Rattle.git_defs.specs.Cones.{InCone, Cut, SameSet, IsPointed, IsEdge, IsExtreme}
-use Rattle.git_defs.proofs.Closed.{IsClosed}
+use Rattle.git_defs.specs.Cones.{InCone, Cut, SameSet, IsPointed, IsEdge, IsExtreme, IsClosed}
 use Rattle.git_geometry.specs.Zeros.{Adjacent}
 use Rattle.git_geometry.specs.Stages.{blend, Exact, IsNext}
 

@@ -2,7 +2,7 @@
 use Rattle.std.specs.Prelude.{◌≡◌, ◌≢◌, ◌<◌, ◌<ℤ◌, ◌≤ℤ◌, ℕ, List, pos, length, Contains}
 use Rattle.git_defs.specs.Vectors.{Vector, zero_vector, scale, dot, IsPrimitive, AllOfLength}
 use Rattle.git_defs.specs.Cones.{InCone, Cut, SameSet, OnRay}
-use Rattle.git_lemmas.proofs.Members.{Member}
+use Rattle.git_lemmas.specs.Members.{Member}
 
 -- a vector that is negative at x and at none of the generators
 pub record Separated (k : ℕ) (generators : List Vector) (x : Vector) : Type 0 where

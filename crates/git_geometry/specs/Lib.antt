@@ -1,3 +1,4 @@
+pub use Rattle.git_defs.specs.Vectors
 pub mod Generators
 pub mod Zeros
 pub mod Stages

@@ -1,8 +1,7 @@
 -- Which vectors a cone holds.
 use Rattle.std.specs.Prelude.{ℕ, List, All}
 use Rattle.git_defs.specs.Vectors.{Vector, AllOfLength}
-use Rattle.git_defs.specs.Cones.{InCone, Cut}
-use Rattle.git_defs.proofs.Closed.{IsClosed}
+use Rattle.git_defs.specs.Cones.{InCone, Cut, IsClosed}
 
 -- sums, multiples by natural numbers and quotients stay in the cone
 abbrev pub ConeIsClosed : Type 0

@@ -2,7 +2,7 @@
 use Rattle.std.specs.Prelude.{◌≡◌, ◌⊎◌, ◌<◌, ◌≤ℤ◌, ◌<ℤ◌, ℕ, List, pos, neg_ℤ}
 use Rattle.git_defs.specs.Vectors.{Vector, scale, plus, dot, IsPrimitive}
 use Rattle.git_defs.specs.Cones.{Cut, IsEdge}
-use Rattle.git_lemmas.proofs.Members.{Member}
+use Rattle.git_lemmas.specs.Members.{Member}
 use Rattle.git_geometry.specs.Generators.{RayOf}
 use Rattle.git_geometry.specs.Zeros.{Adjacent}
 

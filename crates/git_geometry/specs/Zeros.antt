@@ -1,7 +1,7 @@
 -- Where inequalities are 0 on vectors.
 use Rattle.std.specs.Prelude.{◌≡◌, ◌⊎◌, List, pos}
 use Rattle.git_defs.specs.Vectors.{Vector, dot}
-use Rattle.git_lemmas.proofs.Members.{Member}
+use Rattle.git_lemmas.specs.Members.{Member}
 
 -- those of the inequalities that Z holds of are 0 on y
 abbrev pub Flat : (Vector → Type 0) → List Vector → Vector → Type 0

@@ -1,11 +1,11 @@
 //! Gradings: matrices whose columns span, and whose cone is pointed.
 ghost use Rattle.std.specs.Prelude.{◌≡◌, ◌≤◌, ◌<◌, ◌^◌, ◌↔◌, ℕ, length, slice_get, Some, IfOk, IsErrOf, IsTrue};
 ghost use Rattle.git_defs.specs.Vectors.{HasRank, HasZeroSum};
-ghost use Rattle.git_defs.specs.Faces.{IsFull};
+ghost use Rattle.git_defs.specs.Faces.{IsFullDimensional};
 ghost use Rattle.git_grading.specs.Gradings.{IsMatrix, IsGrading};
 ghost use Rattle.git_grading.specs.Tables.{HasWithin};
 
-use crate::bases::{bases, has_circuit};
+use crate::bases::{bases, has_positive_dependence};
 use crate::fault::GradingFault;
 use crate::minors::minors;
 use git_bits::is_within;
@@ -55,7 +55,7 @@ impl Grading {
         if bases.is_empty() {
             return Err(GradingFault::Rank);
         }
-        if has_circuit(k, &columns, &minors) {
+        if has_positive_dependence(k, &columns, &minors) {
             return Err(GradingFault::Pointed);
         }
         Ok(Grading { k, columns, bases })
@@ -97,7 +97,7 @@ impl Grading {
     /// for column `i`, and no bit past the columns is set.
     pub fn full(&self, mask: u16) -> bool
         requires { mask < 2 ^ length self.now.columns }
-        ensures { IsTrue result ↔ IsFull self.now.k self.now.columns mask }
+        ensures { IsTrue result ↔ IsFullDimensional self.now.k self.now.columns mask }
     {
         has_basis(&self.bases, mask)
     }

@@ -5,6 +5,7 @@ use Rattle.git_defs.specs.Vectors.{Vector}
 use Rattle.git_algebra.specs.Polynomials.{Polynomial, polynomial_code}
 use Rattle.git_grading.specs.Gradings.{Degrees}
 use Rattle.git_poly.specs.Degrees.{AreGradedBy, IsHomogeneous}
+use Rattle.git_limits.specs.declared.TheConstants.{GENERATORS, TERMS}
 
 -- what contracts see of an input: the matrix, and the generators of the ideal
 pub record InputValue : Type 0 where
@@ -19,7 +20,7 @@ input_code =
 -- the polynomials may be the generators of an ideal under a grading: at most 64, each in the variables of the columns with exponents of at
 -- most 64, and homogeneous; 0 may be among them
 pub record AreGenerators (d : Degrees) (ps : List Polynomial) : Type 0 where
-  pub few : length ps ≤ 64
-  pub short : All (λ p. length p.terms ≤ 200) ps
+  pub few : length ps ≤ GENERATORS
+  pub short : All (λ p. length p.terms ≤ TERMS) ps
   pub graded : All (AreGradedBy d.columns) ps
   pub homogeneous : All (IsHomogeneous d.k d.columns) ps

@@ -1,3 +1,4 @@
+pub use Rattle.git_defs.specs.Vectors
 pub mod Padded
 pub mod Order
 pub mod Content

@@ -13,16 +13,14 @@ ghost use Rattle.git_ints.specs.Order.{vectors_ties};
 
 use crate::arithmetic::{blend, product, sum};
 use crate::content::{content, quotient};
+use git_limits::{ENTRY, ROWS};
 use std::cmp::Ordering;
 use std::marker::Model;
-
-/// The most entries of a vector.
-const MOST: usize = 6;
 
 /// A vector of one to six integers. Vectors are ordered by their first differing entry.
 #[derive(Clone, Copy, Debug)]
 pub struct IVec {
-    entries: [i128; 6],
+    entries: [i128; ROWS],
     len: usize,
 }
 
@@ -30,12 +28,13 @@ impl Model for IVec {
     ghost use Rattle.std.specs.Prelude.{◌≡◌, ◌≤◌, List, ℤ, pos, length, take, drop, replicate, ◌-◌};
     ghost use Rattle.std.proofs.Common.{sym};
     ghost use Rattle.git_ints.specs.Padded.{padded, padded_size};
+    ghost use Rattle.git_limits.specs.declared.TheConstants.{ROWS};
 
     ghost Value = { List ℤ };
 
     ghost view = { λ s. take s.len s.entries };
 
-    ghost invariant = { λ s. (1 ≤ s.len) × (s.len ≤ 6) × (s.entries ≡ padded (take s.len s.entries)) };
+    ghost invariant = { λ s. (1 ≤ s.len) × (s.len ≤ ROWS) × (s.entries ≡ padded (take s.len s.entries)) };
 
     ghost inverse = { λ v. record { entries = padded v; len = length v } };
 
@@ -46,10 +45,10 @@ impl IVec {
     /// The vector with these entries.
     pub fn of(entries: &[i128]) -> Self
         requires some { 1 ≤ length entries.now }
-        requires few { length entries.now ≤ 6 }
+        requires few { length entries.now ≤ ROWS }
         ensures { result ≡ entries.now }
     {
-        let mut all = [0i128; MOST];
+        let mut all = [0i128; ROWS];
         all[..entries.len()].copy_from_slice(entries);
         IVec {
             entries: all,
@@ -60,10 +59,10 @@ impl IVec {
     /// The unit vector with 1 at place `i`, counted from 0, of `k` entries.
     pub fn unit(k: usize, i: usize) -> Self
         requires at { i < k }
-        requires few { k ≤ 6 }
+        requires few { k ≤ ROWS }
         ensures { slice_get (units k) i ≡ Some result }
     {
-        let mut all = [0i128; MOST];
+        let mut all = [0i128; ROWS];
         all[i] = 1;
         IVec::of(&all[..k])
     }
@@ -72,7 +71,7 @@ impl IVec {
     pub fn as_slice(&self) -> &[i128]
         ensures value { result.now ≡ self.now }
         ensures some { 1 ≤ length self.now }
-        ensures few { length self.now ≤ 6 }
+        ensures few { length self.now ≤ ROWS }
     {
         &self.entries[..self.len]
     }
@@ -81,7 +80,7 @@ impl IVec {
     pub fn len(&self) -> usize
         ensures value { result ≡ length self.now }
         ensures some { 1 ≤ result }
-        ensures few { result ≤ 6 }
+        ensures few { result ≤ ROWS }
     {
         self.as_slice().len()
     }
@@ -98,8 +97,8 @@ impl IVec {
     /// value, the other of at most 2^80.
     pub fn dot(&self, other: &IVec) -> i128
         requires lengths { length self.now ≡ length other.now }
-        requires small { (AreWithin (2 ^ 40) self.now × AreWithin (2 ^ 80) other.now)
-            ⊎ (AreWithin (2 ^ 80) self.now × AreWithin (2 ^ 40) other.now) }
+        requires small { (AreWithin ENTRY self.now × AreWithin (2 ^ 80) other.now)
+            ⊎ (AreWithin (2 ^ 80) self.now × AreWithin ENTRY other.now) }
         ensures { result ≡ dot self.now other.now }
     {
         inner_product(self.as_slice(), other.as_slice())
@@ -114,7 +113,7 @@ impl IVec {
     {
         let a = self.as_slice();
         let b = other.as_slice();
-        let mut all = [0i128; MOST];
+        let mut all = [0i128; ROWS];
         for i in 0..a.len() {
             all[i] = sum(a[i], b[i]);
         }
@@ -125,15 +124,15 @@ impl IVec {
     /// numbers of at most 2^83.
     pub fn combine(a: i128, u: &IVec, b: i128, v: &IVec) -> IVec
         requires lengths { length u.now ≡ length v.now }
-        requires first { AreWithin (2 ^ 40) u.now }
-        requires second { AreWithin (2 ^ 40) v.now }
+        requires first { AreWithin ENTRY u.now }
+        requires second { AreWithin ENTRY v.now }
         requires one { unsigned_abs a ≤ 2 ^ 83 }
         requires other { unsigned_abs b ≤ 2 ^ 83 }
         ensures { result ≡ plus (scale a u.now) (scale b v.now) }
     {
         let x = u.as_slice();
         let y = v.as_slice();
-        let mut all = [0i128; MOST];
+        let mut all = [0i128; ROWS];
         for i in 0..x.len() {
             all[i] = blend(a, x[i], b, y[i]);
         }
@@ -151,7 +150,7 @@ impl IVec {
         if divisor == 0 {
             return *self;
         }
-        let mut all = [0i128; MOST];
+        let mut all = [0i128; ROWS];
         for i in 0..a.len() {
             all[i] = quotient(a[i], divisor);
         }
@@ -161,8 +160,8 @@ impl IVec {
 
 fn inner_product(a: &[i128], b: &[i128]) -> i128
     requires lengths { length a.now ≡ length b.now }
-    requires few { length a.now ≤ 6 }
-    requires small { (AreWithin (2 ^ 40) a.now × AreWithin (2 ^ 80) b.now) ⊎ (AreWithin (2 ^ 80) a.now × AreWithin (2 ^ 40) b.now) }
+    requires few { length a.now ≤ ROWS }
+    requires small { (AreWithin ENTRY a.now × AreWithin (2 ^ 80) b.now) ⊎ (AreWithin (2 ^ 80) a.now × AreWithin ENTRY b.now) }
     ensures { result ≡ dot a.now b.now }
 {
     let mut total = 0i128;

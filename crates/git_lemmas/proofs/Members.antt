@@ -1,13 +1,9 @@
 -- Members of a list, by recursion, beside the library's words by index.
-use Rattle.std.proofs.Common.{◌≡◌, ◌⊎◌, ℕ, zero, suc, ◌<◌, List, [], ◌∷◌, length, get_or, refl, ap, subst, arith, inl, inr}
+use Rattle.std.proofs.Common.{◌≡◌, ℕ, zero, suc, ◌<◌, List, [], ◌∷◌, length, get_or, refl, ap, subst, arith, inl, inr}
+use Rattle.git_lemmas.specs.Members.{Member}
 use Rattle.std.specs.Prelude.{All, Contains, Some, slice_get}
 use Rattle.std.proofs.lemmas.Option.{get_or_from_slice_get, slice_get_within}
 use Rattle.std.proofs.lemmas.List.Elements.{All-nil, All-cons}
-
--- x is one of the list
-abbrev pub Member : {X : Type 0} → X → List X → Type 0
-Member x [] = ⊥
-Member x (v ∷ vs) = (v ≡ x) ⊎ Member x vs
 
 pub member_contains : {X : Type 0} (x : X) (vs : List X) → Member x vs → Contains vs x
 member_contains x [] m = absurd m

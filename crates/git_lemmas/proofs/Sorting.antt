@@ -4,7 +4,8 @@ use Rattle.std.specs.Prelude.{AllPairs}
 use Rattle.std.specs.Ordering.{ordering_reverse}
 use Rattle.std.specs.declared.cmp.Ordering.{Ordering}
 use Rattle.std.specs.declared.cmp.Ordering.TheVariants.{Equal, Greater, Less}
-use Rattle.git_lemmas.proofs.Members.{Member, member_contains}
+use Rattle.git_lemmas.specs.Members.{Member}
+use Rattle.git_lemmas.proofs.Members.{member_contains}
 
 -- what is less than itself is greater too
 pub not_self : (o : Ordering) → o ≡ ordering_reverse o → o ≡ Less → ⊥

@@ -3,7 +3,7 @@
 
 ghost use Rattle.std.specs.Prelude.{◌≡◌};
 ghost use Rattle.std.specs.Process.{exit_status};
-ghost use Rattle.git_base.specs.Faults.{Rose};
+ghost use Rattle.git_base.specs.Faults.{HasRisen};
 ghost use Rattle.git_base.specs.Status.{code_of};
 ghost use Rattle.git_base.specs.declared.status.Status.{Status};
 ghost use Rattle.git_top.specs.Cases.{over};
@@ -35,7 +35,7 @@ fn answer<S: Source, K: Sink>(
     sink: &mut K,
 ) -> ExitCode
     ensures { (status : Status) × (exit_status result ≡ code_of status) × Ends (over (S.left source.old) (answer_to (words_of words.now)))
-        (Rose (S.faults source.old) (S.faults source.new)) (Rose (K.faults sink.old) (K.faults sink.new)) (K.written sink.old) (K.written sink.new) status }
+        (HasRisen (S.faults source.old) (S.faults source.new)) (HasRisen (K.faults sink.old) (K.faults sink.new)) (K.written sink.old) (K.written sink.new) status }
 {
     exit_code(gitfan(alloc, words, source, sink))
 }

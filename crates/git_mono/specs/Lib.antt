@@ -1,1 +1,3 @@
+pub use Rattle.git_algebra.specs.Exponents
+pub use Rattle.git_algebra.specs.Order
 pub mod Places

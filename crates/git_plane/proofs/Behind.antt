@@ -5,7 +5,8 @@ use Rattle.std.proofs.lemmas.Int.{ints}
 use Rattle.std.specs.Prelude.{AllPairs, Contains, Some, slice_get}
 use Rattle.git_defs.proofs.Closed.{cone_closed, cone_has}
 use Rattle.git_defs.proofs.Linear.{dot-comm}
-use Rattle.git_lemmas.proofs.Members.{Member, contains_member, member_contains}
+use Rattle.git_lemmas.specs.Members.{Member}
+use Rattle.git_lemmas.proofs.Members.{contains_member, member_contains}
 use Rattle.git_defs.specs.Cones.{Dual, InCone, IsExtreme, SameSet}
 use Rattle.git_defs.specs.Faces.{cone_at}
 use Rattle.git_listing.specs.Listings.{Chamber, RaysPrecede}

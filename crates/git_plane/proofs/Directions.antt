@@ -3,10 +3,12 @@ use Rattle.std.proofs.Common.{◌≡◌, ◌<◌, ◌∙◌, ◌⊎◌, ◌∷�
 use Rattle.std.proofs.Math.IntN.{◌*ℤ◌, *ℤ-zero, negsuc, pos, ℤ}
 use Rattle.std.proofs.lemmas.Int.{ints}
 use Rattle.std.specs.Prelude.{◌<ℤ◌, ◌≤ℤ◌, AllPairs}
-use Rattle.git_defs.proofs.Closed.{IsClosed, closed_cone, positive_or_zero}
+use Rattle.git_defs.specs.Cones.{IsClosed}
+use Rattle.git_defs.proofs.Closed.{closed_cone, positive_or_zero}
 use Rattle.git_lemmas.proofs.Integers.{mul_pos, pos_of_mul}
 use Rattle.git_defs.proofs.Linear.{dot-plus, dot-scale, dot-zero, length-plus, length-scale, length-zero}
-use Rattle.git_lemmas.proofs.Members.{Member, contains_member, member_contains}
+use Rattle.git_lemmas.specs.Members.{Member}
+use Rattle.git_lemmas.proofs.Members.{contains_member, member_contains}
 use Rattle.git_defs.proofs.Sums.{plus-zero, scale-zero, scale_none}
 use Rattle.git_defs.specs.Chambers.{IsGeneric}
 use Rattle.git_defs.specs.Vectors.{IsPrimitive, Vector, dot, plus, scale, zero_vector}

@@ -5,7 +5,8 @@ use Rattle.std.proofs.Math.Nat.{eq-one_of_dvd-one}
 use Rattle.std.proofs.lemmas.Int.{ints}
 use Rattle.std.specs.Int.RustNames.{unsigned_abs}
 use Rattle.std.specs.Prelude.{◌<ℤ◌, AllPairs, Contains, Some, slice_get}
-use Rattle.git_lemmas.proofs.Members.{Member, contains_member, member_all, member_contains}
+use Rattle.git_lemmas.specs.Members.{Member}
+use Rattle.git_lemmas.proofs.Members.{contains_member, member_all, member_contains}
 use Rattle.git_defs.proofs.Lengths.{OfLength, of_length_all}
 use Rattle.git_listing.specs.Listings.{Chamber, RaysPrecede, boundary, inner}
 use Rattle.git_defs.specs.Vectors.{IsPrimitive, Precedes, Vector, dot, scale}

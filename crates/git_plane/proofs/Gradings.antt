@@ -2,7 +2,8 @@
 use Rattle.std.proofs.Common.{◌≡◌, ◌⊎◌, ◌∙◌, List, arith, inl, inr, length, sym}
 use Rattle.std.proofs.lemmas.Int.{ints}
 use Rattle.git_defs.proofs.Linear.{dot-comm, dot-plus, length-plus}
-use Rattle.git_lemmas.proofs.Members.{Member, all_member, contains_member}
+use Rattle.git_lemmas.specs.Members.{Member}
+use Rattle.git_lemmas.proofs.Members.{all_member, contains_member}
 use Rattle.git_defs.proofs.Lengths.{OfLength, all_of_length}
 use Rattle.git_defs.specs.Vectors.{HasZeroSum, Vector, plus}
 use Rattle.git_plane.proofs.PlaneRanks.{rank_turns}

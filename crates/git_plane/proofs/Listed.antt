@@ -5,7 +5,8 @@ use Rattle.std.proofs.lemmas.Int.{ints}
 use Rattle.std.specs.Prelude.{◌<ℤ◌, Contains, Some, slice_get}
 use Rattle.git_defs.proofs.Closed.{cone_closed, cone_has}
 use Rattle.git_defs.proofs.Linear.{dot-zero, length-plus}
-use Rattle.git_lemmas.proofs.Members.{Member, contains_member, member_contains}
+use Rattle.git_lemmas.specs.Members.{Member}
+use Rattle.git_lemmas.proofs.Members.{contains_member, member_contains}
 use Rattle.git_defs.proofs.Lengths.{OfLength}
 use Rattle.git_defs.proofs.Sums.{plus-zero, scale-one}
 use Rattle.git_defs.specs.Chambers.{InChamberOf, IsGeneric}

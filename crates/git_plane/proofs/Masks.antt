@@ -1,6 +1,6 @@
 -- The face of the columns that pass a test.
 use Rattle.std.proofs.Common.{◌≡◌, ◌+◌, ◌<◌, ◌≤◌, ◌*◌, ◌^◌, ◌/◌, ◌⊎◌, ◌∷◌, [], List, arith, inl, inr, length, refl, subst, suc, sym, ℕ}
-use Rattle.git_lemmas.proofs.Members.{Member}
+use Rattle.git_lemmas.specs.Members.{Member}
 use Rattle.git_defs.specs.Faces.{face}
 use Rattle.git_defs.specs.Vectors.{Vector}
 use Rattle.git_minors.proofs.Parts.{face_even, face_odd, face_skip, face_with}

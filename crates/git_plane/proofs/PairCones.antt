@@ -6,7 +6,7 @@ use Rattle.std.specs.Prelude.{◌<ℤ◌, ◌≤ℤ◌}
 use Rattle.git_defs.proofs.Closed.{closed_cone, cone_closed, cone_has}
 use Rattle.git_defs.proofs.Cuts.{cut_from, cut_side}
 use Rattle.git_defs.proofs.Linear.{cone_beside}
-use Rattle.git_lemmas.proofs.Members.{Member}
+use Rattle.git_lemmas.specs.Members.{Member}
 use Rattle.git_defs.proofs.Lengths.{OfLength, more_of_length, none_of_length}
 use Rattle.git_defs.specs.Cones.{AreFacets, AreRays, Cut, Dual, InCone, SameSet}
 use Rattle.git_defs.specs.Vectors.{IsPrimitive, Precedes, Vector, dot}

@@ -3,10 +3,11 @@ use Rattle.std.proofs.Common.{◌≡◌, ◌≤◌, ◌⊎◌, ◌∷◌, [], Li
 use Rattle.std.proofs.Math.IntN.{pos, ℤ}
 use Rattle.std.proofs.lemmas.Int.{ints}
 use Rattle.std.specs.Prelude.{◌<ℤ◌, ◌≤ℤ◌}
-use Rattle.git_defs.proofs.Closed.{IsClosed, cone_closed, cone_has, sign_of}
-use Rattle.git_lemmas.proofs.Members.{Member, all_member, contains_member, member_contains}
+use Rattle.git_defs.specs.Cones.{IsClosed, InCone, SameSet}
+use Rattle.git_defs.proofs.Closed.{cone_closed, cone_has, sign_of}
+use Rattle.git_lemmas.specs.Members.{Member}
+use Rattle.git_lemmas.proofs.Members.{all_member, contains_member, member_contains}
 use Rattle.git_defs.proofs.Lengths.{OfLength}
-use Rattle.git_defs.specs.Cones.{InCone, SameSet}
 use Rattle.git_defs.specs.Faces.{IsConeFace, IsGreatestMask, SameCone, face, face_cone}
 use Rattle.git_defs.specs.Vectors.{HasZeroSum, Vector}
 use Rattle.git_geometry.proofs.Rays.{same_back, same_through}

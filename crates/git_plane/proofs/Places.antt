@@ -8,7 +8,8 @@ use Rattle.std.specs.Ordering.{int_cmp, ordering_reverse}
 use Rattle.std.specs.Prelude.{AllPairs, Contains, Some, slice_get}
 use Rattle.std.specs.declared.cmp.Ordering.{Ordering}
 use Rattle.std.specs.declared.cmp.Ordering.TheVariants.{Equal, Greater, Less}
-use Rattle.git_lemmas.proofs.Members.{Member, place_contains, member_place}
+use Rattle.git_lemmas.specs.Members.{Member}
+use Rattle.git_lemmas.proofs.Members.{place_contains, member_place}
 use Rattle.git_listing.specs.Listings.{Chamber, RaysPrecede}
 use Rattle.git_defs.specs.Vectors.{Precedes, Vector}
 use Rattle.git_lemmas.proofs.Sorting.{Ascends, ascends_of_pairs, once, not_self}
@@ -44,13 +45,6 @@ total = lists_total (lists_total int_cmp_total)
 
 before_irreflexive : (us : List Vector) → Before us us → ⊥
 before_irreflexive us h = not_self (slice_cmp (slice_cmp int_cmp) us us) (total.antisymm us us) h
-
-precedes_irreflexive : (v : Vector) → Precedes v v → ⊥
-precedes_irreflexive v h = not_self (slice_cmp int_cmp v v) ((lists_total int_cmp_total).antisymm v v) h
-
--- vectors in order are distinct
-pub distinct_of_ordered : (vs : List Vector) → AllPairs Precedes vs → AllPairs (λ u v. u ≢ v) vs
-distinct_of_ordered vs ordered i j d lt within e = precedes_irreflexive (get_or vs j d) (subst (λ (x : Vector). Precedes x (get_or vs j d)) e (ordered i j d lt within))
 
 abbrev pub ray_lists : List Chamber → List (List Vector)
 ray_lists cs = map (λ c. c.rays) cs

@@ -6,7 +6,7 @@ use Rattle.std.proofs.lemmas.Int.{ints}
 use Rattle.std.proofs.lemmas.List.Elements.{All-nil, All-cons}
 use Rattle.git_defs.specs.Vectors.{Vector, zero_vector, combination, AreIndependent, HasRank}
 use Rattle.git_lemmas.proofs.Integers.{diff, diff_add, diff_neg, diff_sub, diff_mul, diff_same, zero_of_mul, no_product}
-use Rattle.git_defs.proofs.Lengths.{OfLength}
+use Rattle.git_defs.proofs.Lengths.{OfLength, of_length_all, more_of_length, none_of_length}
 use Rattle.git_lemmas.proofs.Members.{contains_member}
 use Rattle.git_defs.proofs.PlaneRays.{first_entry, second_entry}
 use Rattle.git_plane.specs.Turns.{turn}
@@ -74,6 +74,9 @@ pub turns_rank : (vs : List Vector) → OfLength 2 vs → HasTurns vs → HasRan
 turns_rank vs have t = record {
   chosen = t.one ∷ t.turns.other ∷ [];
   from = All-cons (Contains vs) t.one (t.turns.other ∷ []) t.one_in (All-cons (Contains vs) t.turns.other [] t.turns.other_in (All-nil (Contains vs)));
+  entries = of_length_all 2 (t.one ∷ t.turns.other ∷ [])
+      (more_of_length 2 t.one (t.turns.other ∷ []) (have.each t.one (contains_member t.one vs t.one_in))
+      (more_of_length 2 t.turns.other [] (have.each t.turns.other (contains_member t.turns.other vs t.turns.other_in)) (none_of_length 2)));
   count = refl;
   independent = turning_independent t.one t.turns.other (have.each t.one (contains_member t.one vs t.one_in)) (have.each t.turns.other (contains_member t.turns.other vs t.turns.other_in)) t.turns.turns;
 }

@@ -3,7 +3,8 @@ use Rattle.std.proofs.Common.{◌⊎◌, ◌∷◌, [], List, arith, inl, inr, r
 use Rattle.std.proofs.Math.IntN.{negsuc, pos, ℤ}
 use Rattle.std.proofs.lemmas.Int.{ints}
 use Rattle.std.specs.Prelude.{◌<ℤ◌, ◌≤ℤ◌}
-use Rattle.git_lemmas.proofs.Members.{Member, all_member, contains_member, member_contains}
+use Rattle.git_lemmas.specs.Members.{Member}
+use Rattle.git_lemmas.proofs.Members.{all_member, contains_member, member_contains}
 use Rattle.git_defs.proofs.Sums.{scale-one}
 use Rattle.git_defs.specs.Chambers.{IsGeneric}
 use Rattle.git_defs.specs.Vectors.{Vector}

@@ -1,7 +1,8 @@
 -- A grading with two rows has one listing.
 use Rattle.std.proofs.Common.{◌≡◌, ◌+◌, ◌∙◌, ◌∷◌, [], List, ap, inl, inr, length, map, refl, subst, sym, ℕ}
 use Rattle.std.specs.Prelude.{AllPairs, Contains, Some, slice_get}
-use Rattle.git_lemmas.proofs.Members.{Member, contains_member, member_contains, member_place, place_contains}
+use Rattle.git_lemmas.specs.Members.{Member}
+use Rattle.git_lemmas.proofs.Members.{contains_member, member_contains, member_place, place_contains}
 use Rattle.git_defs.specs.Chambers.{InChamberOf, IsGeneric}
 use Rattle.git_defs.specs.Cones.{AreRays, Dual, IsExtreme}
 use Rattle.git_defs.specs.Faces.{cone_at}

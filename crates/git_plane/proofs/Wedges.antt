@@ -7,7 +7,8 @@ use borrow.Author.Differences.{up}
 use Rattle.git_defs.specs.Vectors.{Vector, zero_vector, scale, dot, HasZeroSum}
 use Rattle.git_defs.specs.Cones.{InCone}
 use Rattle.git_lemmas.proofs.Integers.{diff, diff_add, diff_neg, diff_sub, diff_mul, diff_same, mul_nonneg, mul_pos, pos_of_mul, zero_of_mul, pos_up, square_zero}
-use Rattle.git_lemmas.proofs.Members.{Member, member_contains, contains_member, all_member, member_all}
+use Rattle.git_lemmas.specs.Members.{Member}
+use Rattle.git_lemmas.proofs.Members.{member_contains, contains_member, all_member, member_all}
 use Rattle.git_defs.proofs.Lengths.{OfLength, first_of_length, rest_of_length}
 use Rattle.git_defs.proofs.Linear.{length-scale}
 use Rattle.git_defs.proofs.Closed.{closed_cone, cone_closed, cone_has, sign_of, positive_or_zero}
@@ -184,9 +185,6 @@ square = in_plane (λ v. (v ≡ zero_vector 2) ⊎ (pos 0 <ℤ dot v v)) entries
     ]
   ]
 
-zero_turn : (v u : Vector) → length v ≡ 2 → u ≡ zero_vector 2 → turn v u ≡ pos 0
-zero_turn v u e f = ap (turn v) f ∙ in_plane (λ v. turn v (zero_vector 2) ≡ pos 0) (λ a b. diff_same (diff_sub (diff_mul (diff a) (diff (pos 0))) (diff_mul (diff b) (diff (pos 0)))) (diff (pos 0)) (omega arith)) v e
-
 -- the zero vector alone has sum 0
 zero_vector_sum : (g : Vector) (vs : List Vector) → OfLength 2 (g ∷ vs) → g ≡ zero_vector 2 → HasZeroSum 2 (g ∷ vs)
 zero_vector_sum g vs have e =
@@ -346,18 +344,3 @@ wedge_or_zero_sum vs have t = by (state vs have) where
 abbrev normal : Vector → Vector → Vector
 normal (a ∷ b ∷ []) (c ∷ d ∷ []) = (d -ℤ b) ∷ (a -ℤ c) ∷ []
 normal u w = []
-
-dot_normal : (u w v : Vector) → length u ≡ 2 → length w ≡ 2 → length v ≡ 2 → dot (normal u w) v ≡ turn u v +ℤ turn v w
-dot_normal u w v e f g =
-    in_plane (λ u. dot (normal u w) v ≡ turn u v +ℤ turn v w) (λ a b.
-    in_plane (λ w. dot (normal (a ∷ b ∷ []) w) v ≡ turn (a ∷ b ∷ []) v +ℤ turn v w) (λ c d.
-    in_plane (λ v. dot (normal (a ∷ b ∷ []) (c ∷ d ∷ [])) v ≡ turn (a ∷ b ∷ []) v +ℤ turn v (c ∷ d ∷ [])) (λ x y.
-    diff_same (diff_add (diff_mul (diff_sub (diff d) (diff b)) (diff x)) (diff_add (diff_mul (diff_sub (diff a) (diff c)) (diff y)) (diff (pos 0))))
-    (diff_add (diff_sub (diff_mul (diff a) (diff y)) (diff_mul (diff b) (diff x))) (diff_sub (diff_mul (diff x) (diff d)) (diff_mul (diff y) (diff c)))) (omega arith)) v g) w f) u e
-
-pub wedge_no_zero_sum : (vs : List Vector) → OfLength 2 vs → HasWedge vs → HasZeroSum 2 vs → ⊥
-wedge_no_zero_sum vs have h = positive_no_zero_sum 2 (normal h.low h.end.high) vs have positive where
-  positive : (v : Vector) → Member v vs → pos 0 <ℤ dot (normal h.low h.end.high) v
-  positive v m =
-      let e = have.each h.low (contains_member h.low vs h.low_in) in let f = have.each h.end.high (contains_member h.end.high vs h.end.high_in) in
-      subst (λ (z : ℤ). pos 0 <ℤ z) (sym (dot_normal h.low h.end.high v e f (have.each v m))) (all_member (LiesBetween h.low h.end.high) v vs h.end.is.between m).off_zero

@@ -7,6 +7,7 @@ ghost use Rattle.git_poly.specs.Degrees.{degree_under, IsGradedBy, HasOneDegree,
 use crate::term::Term;
 use git_grading::Grading;
 use git_ints::IVec;
+use git_limits::ROWS;
 use git_mono::Mono;
 
 /// The degree of a monomial: the sum of the columns, each times the exponent of its variable. Each
@@ -29,10 +30,10 @@ pub fn degree_of(g: &Grading, m: &Mono) -> IVec
 /// The vector 0.
 fn zero(k: usize) -> IVec
     requires some { 1 ≤ k }
-    requires few { k ≤ 6 }
+    requires few { k ≤ ROWS }
     ensures { result ≡ zero_vector k }
 {
-    let entries = [0i128; 6];
+    let entries = [0i128; ROWS];
     IVec::of(&entries[..k])
 }
 

@@ -61,10 +61,6 @@ term_printed before out all s i t at is so_far =
     let whole : (before ++ sign_text (i == 0) t.1 ++ term_text t) ++ signed_terms false (drop (i + 1) s) ≡ before ++ (sign_text (i == 0) t.1 ++ term_text t ++ signed_terms false (drop (i + 1) s)) = simp append_assoc in
     (λ j. is j ++ signed_terms (later_is i j) (drop (i + 1) s)) ∙ whole ∙ ap (λ l. before ++ signed_terms (i == 0) l) (sym (term_at s i t at ∙ ap (λ (n : ℕ). t ∷ drop n s) (sym (add-one i)))) ∙ so_far
 
-pub terms_begin : (out : List ℕ) (s : Sum) → length s ≢ 0 → out ++ signed_terms true s ≡ out ++ terms_text s
-terms_begin out [] some = absurd (some refl)
-terms_begin out (t ∷ s) some = refl
-
 all_dropped : (s : Sum) (i : ℕ) → length s ≤ i → drop i s ≡ []
 all_dropped [] zero h = refl
 all_dropped [] (suc i) h = refl

@@ -10,6 +10,7 @@ use Rattle.git_algebra.specs.Sums.{Sum}
 use Rattle.git_algebra.specs.Polynomials.{Polynomial, normal}
 use Rattle.git_polytext.specs.Pieces.{signs, pieces}
 use Rattle.git_polytext.specs.Terms.{after_sign, product_of}
+use Rattle.git_limits.specs.declared.TheConstants.{TERMS, EXPONENT}
 
 -- a token of digits alone, at most so many, and the number that it spells; each token has a byte
 pub record IsNumber (limit : ℕ) (digits : List ℕ) (n : ℕ) : Type 0 where
@@ -54,12 +55,12 @@ pub record IsTerm (r : ℕ) (piece : Part) (term : Exponents × ℕ) : Type 0 wh
   pub powers : List (ℕ × ℕ)
   pub factors : IsProduct r (map (λ p. p.text) (parts Star 1 piece.text)) number powers
   pub monomial : term.0 ≡ product_of powers
-  pub small : (i : ℕ) → exponent term.0 i ≤ 64
+  pub small : (i : ℕ) → exponent term.0 i ≤ EXPONENT
   pub counted : term.1 ≡ after_sign piece.separator number
 
 -- the line is that of this polynomial: the sum of at most two hundred terms, which stand between plus and minus signs
 pub record IsPolynomialLine (r : ℕ) (content : List ℕ) (p : Polynomial) : Type 0 where
   pub terms : Sum
   pub are : Together (IsTerm r) (pieces content) terms
-  pub few : length terms ≤ 200
+  pub few : length terms ≤ TERMS
   pub sum : p ≡ normal terms

@@ -12,6 +12,7 @@ use Rattle.git_polytext.specs.declared.fault.PolynomialFault.TheVariants.{Form, 
 use Rattle.git_polytext.specs.Reading.{polynomial_line}
 use Rattle.git_polytext.specs.Grammar.{IsPolynomialLine}
 use Rattle.git_polytext.specs.Printing.{polynomial_text}
+use Rattle.git_limits.specs.declared.TheConstants.{COLUMNS}
 
 -- the value that is read of a line is that of the grammar
 abbrev pub LinesReadAreLines : Type 0
@@ -19,11 +20,11 @@ LinesReadAreLines = (r line : ℕ) (content : List ℕ) (p : Polynomial) → pol
 
 -- the value that a line has in the grammar is read of it, where there are at most sixteen variables
 abbrev pub LinesAreRead : Type 0
-LinesAreRead = (r line : ℕ) (content : List ℕ) (p : Polynomial) → r ≤ 16 → IsPolynomialLine r content p → polynomial_line r line content ≡ Ok p
+LinesAreRead = (r line : ℕ) (content : List ℕ) (p : Polynomial) → r ≤ COLUMNS → IsPolynomialLine r content p → polynomial_line r line content ≡ Ok p
 
 -- a line has one value at most
 abbrev pub LinesHaveOneValue : Type 0
-LinesHaveOneValue = (r : ℕ) (content : List ℕ) (p q : Polynomial) → r ≤ 16 → IsPolynomialLine r content p → IsPolynomialLine r content q → p ≡ q
+LinesHaveOneValue = (r : ℕ) (content : List ℕ) (p q : Polynomial) → r ≤ COLUMNS → IsPolynomialLine r content p → IsPolynomialLine r content q → p ≡ q
 
 -- a fault within the line with this number and so many bytes, or one past its end, of a kind that comes
 abbrev pub IsFaultOf : ℕ → ℕ → PolynomialFault → Type 0
@@ -41,7 +42,7 @@ LinesAreGraded = (columns : List Vector) (content : List ℕ) (p : Polynomial) �
 
 -- a polynomial of at most two hundred such monomials is read back from its text
 abbrev pub PolynomialsAreReadBack : Type 0
-PolynomialsAreReadBack = (columns : List Vector) (p : Polynomial) → length columns ≤ 16 → AreGradedBy columns p → length p.terms ≤ 200
+PolynomialsAreReadBack = (columns : List Vector) (p : Polynomial) → length columns ≤ COLUMNS → AreGradedBy columns p → length p.terms ≤ 200
     → IsPolynomialLine (length columns) (polynomial_text p) p
 
 -- no space, no line feed and no carriage return

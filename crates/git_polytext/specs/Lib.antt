@@ -1,3 +1,6 @@
+pub use Rattle.git_lines.specs.Reading as LinesReading
+pub use Rattle.git_algebra.specs.Exponents
+pub use Rattle.git_algebra.specs.Polynomials
 pub mod Pieces
 pub mod Terms
 pub mod Views

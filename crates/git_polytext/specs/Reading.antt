@@ -17,6 +17,7 @@ use Rattle.git_polytext.specs.declared.fault.PolynomialFault.{PolynomialFault}
 use Rattle.git_polytext.specs.declared.fault.PolynomialFault.TheVariants.{Form, Variable, NoMemory}
 use Rattle.git_polytext.specs.Pieces.{pieces}
 use Rattle.git_polytext.specs.Terms.{after_sign}
+use Rattle.git_limits.specs.declared.TheConstants.{TERMS, EXPONENT}
 
 abbrev pub fault_at : {A : Type 0} → ℕ → ℕ → FormKind → Result A PolynomialFault
 fault_at line column kind = Err (Form (record { line = line; column = column; kind = kind }))
@@ -68,7 +69,7 @@ known r line column i = if nat_le 1 i && nat_le i r then Ok tt else Err (Variabl
 
 -- the monomial times one power more, whose exponents may not pass 64; else the fault is at the term's first byte
 abbrev pub raised : ℕ → ℕ → Exponents → ℕ → ℕ → Result Exponents PolynomialFault
-raised line start m place e = if nat_le (exponent m place + e) 64 then Ok (times m (variable_power place e)) else fault_at line start Range
+raised line start m place e = if nat_le (exponent m place + e) EXPONENT then Ok (times m (variable_power place e)) else fault_at line start Range
 
 -- a power of a variable, and nothing after it; the exponents of its term are checked before what comes after it
 unfoldable pub power_signs : ℕ → ℕ → Exponents → RestOfLine → Result Exponents PolynomialFault
@@ -134,7 +135,7 @@ term_in full r line sign (p ∷ ps) = do
 
 -- the monomial and the number of a term, after so many others
 unfoldable pub term_part : ℕ → ℕ → ℕ → Part → Result (Exponents × ℕ) PolynomialFault
-term_part r line count p = term_in (nat_le 200 count) r line p.separator (parts Star p.column p.text)
+term_part r line count p = term_in (nat_le TERMS count) r line p.separator (parts Star p.column p.text)
 
 -- ---- a line
 

@@ -6,13 +6,14 @@ ghost use Rattle.git_polytext.specs.Reading.{GivesUnlessFull, polynomial_line};
 
 use crate::fault::PolynomialFault;
 use crate::terms::{pieces, sum_of_terms, terms};
+use git_limits::COLUMNS;
 use git_lines::Line;
 use git_poly::Poly;
 use std::alloc::Global;
 
 #[tactic(auto, unfolding(crate::specs::Reading::polynomial_line, crate::specs::Reading::terms_line))]
 fn read_line(alloc: Global, line: &Line<'_>, r: usize) -> Result<Poly, PolynomialFault>
-    requires { r ≤ 16 }
+    requires { r ≤ COLUMNS }
     ensures { GivesUnlessFull (λ p. p) result (polynomial_line r line.now.number line.now.text.now) }
 {
     let mut parts = pieces(line.text);
@@ -25,7 +26,7 @@ fn read_line(alloc: Global, line: &Line<'_>, r: usize) -> Result<Poly, Polynomia
 ///
 /// `r` is at most 16. A term's exponents are at most 64 each, and the terms at most two hundred.
 pub fn read_polynomial(alloc: Global, line: &Line<'_>, r: usize) -> Result<Poly, PolynomialFault>
-    requires { r ≤ 16 }
+    requires { r ≤ COLUMNS }
     ensures found { IfOk result (λ p. IsPolynomialLine r line.now.text.now p) }
     ensures only { (p : Polynomial) → IsPolynomialLine r line.now.text.now p → MatchResult result (λ q. q ≡ p) (λ e. e ≡ PolynomialFault.NoMemory) }
     ensures exact { GivesUnlessFull (λ p. p) result (polynomial_line r line.now.number line.now.text.now) }

@@ -6,6 +6,7 @@ ghost use Rattle.git_polytext.specs.Reading;
 ghost use Rattle.git_polytext.specs.Reading.{known, raised};
 
 use crate::fault::PolynomialFault;
+use git_limits::{COLUMNS, EXPONENT};
 use git_lines::{Cursor, FormFault, FormKind, are_digits, value_of};
 use git_mono::Mono;
 
@@ -97,12 +98,12 @@ fn check_known(r: usize, line: u32, column: u32, index: u64) -> Result<(), Polyn
 fn raise(line: u32, start: u32, m: &Mono, place: usize, e: u64) -> Result<Mono, PolynomialFault>
     requires place { place < 17 }
     requires exponent { e < 10 ^ 18 }
-    requires small { (i : ℕ) → exponent m.now i ≤ 64 }
+    requires small { (i : ℕ) → exponent m.now i ≤ EXPONENT }
     ensures reads { Gives (λ x. x) result (raised line start m.now place e) }
-    ensures small { IfOk result (λ x. (i : ℕ) → exponent x i ≤ 64) }
+    ensures small { IfOk result (λ x. (i : ℕ) → exponent x i ≤ EXPONENT) }
 {
     let sum = u64::from(m.exponent(place)) + e;
-    if sum > 64 {
+    if sum > u64::from(EXPONENT) {
         return Err(fault_at(line, start, FormKind::Range));
     }
     let power = Mono::power(place, e as u32).unwrap();
@@ -117,10 +118,10 @@ pub(crate) fn power_signs(
     m: &Mono,
     signs: &mut Cursor<'_>,
 ) -> Result<Mono, PolynomialFault>
-    requires variables { r ≤ 16 }
-    requires small { (i : ℕ) → exponent m.now i ≤ 64 }
+    requires variables { r ≤ COLUMNS }
+    requires small { (i : ℕ) → exponent m.now i ≤ EXPONENT }
     ensures reads { Gives (λ x. x) result (Rattle.git_polytext.specs.Reading.power_signs r start m.now signs.old) }
-    ensures small { IfOk result (λ x. (i : ℕ) → exponent x i ≤ 64) }
+    ensures small { IfOk result (λ x. (i : ℕ) → exponent x i ≤ EXPONENT) }
 {
     let line = signs.line();
     let column = bracket_sign(signs)?;

@@ -13,6 +13,7 @@ use crate::fault::PolynomialFault;
 use crate::signs::{fault_at, no_sign, number_sign, power_signs};
 use git_base::NoMemory;
 use git_field::Fp;
+use git_limits::{COLUMNS, EXPONENT, TERMS};
 use git_lines::{Cursor, FormKind, Joining, Part, Parts, Separator, Token, are_digits};
 use git_mono::Mono;
 use git_poly::Poly;
@@ -49,9 +50,9 @@ fn check_count(full: bool, line: u32, token: &Token<'_>) -> Result<(), Polynomia
 /// The first factor of a term; full where the term is one too many.
 #[tactic(auto, unfolding(crate::specs::Reading::first_factor))]
 fn first_factor(full: bool, r: usize, signs: &mut Cursor<'_>) -> Result<Factor, PolynomialFault>
-    requires { r ≤ 16 }
+    requires { r ≤ COLUMNS }
     ensures reads { Gives (λ x. (x.start, (x.mono, x.number))) result (Rattle.git_polytext.specs.Reading.first_factor full r signs.old) }
-    ensures small { IfOk result (λ x. (i : ℕ) → exponent x.mono i ≤ 64) }
+    ensures small { IfOk result (λ x. (i : ℕ) → exponent x.mono i ≤ EXPONENT) }
     ensures few { IfOk result (λ x. x.number < 10 ^ 18) }
 {
     let line = signs.line();
@@ -86,8 +87,8 @@ fn power_parts(
     begun: Mono,
     parts: &mut Parts<'_>,
 ) -> Result<Mono, PolynomialFault>
-    requires variables { r ≤ 16 }
-    requires small { (i : ℕ) → exponent begun i ≤ 64 }
+    requires variables { r ≤ COLUMNS }
+    requires small { (i : ℕ) → exponent begun i ≤ EXPONENT }
     ensures { Gives (λ x. x) result (Rattle.git_polytext.specs.Reading.power_parts r line start begun parts.old) }
 {
     let mut mono = begun;
@@ -112,7 +113,7 @@ fn number_after(sign: Option<u8>, number: u64) -> Fp
 /// A term, after so many others.
 #[tactic(auto, unfolding(crate::specs::Reading::term_part))]
 fn term_part(r: usize, line: u32, count: usize, part: &Part<'_>) -> Result<Term, PolynomialFault>
-    requires { r ≤ 16 }
+    requires { r ≤ COLUMNS }
     ensures { Gives term_of result (Rattle.git_polytext.specs.Reading.term_part r line count (record { separator = part.now.separator; column = part.now.column; text = part.now.text.now })) }
 {
     let mut parts = Parts::new(Separator::Star, part.column, part.text);
@@ -120,7 +121,7 @@ fn term_part(r: usize, line: u32, count: usize, part: &Part<'_>) -> Result<Term,
         return Err(fault_at(line, 1, FormKind::Syntax));
     };
     let mut signs = Cursor::new(Joining::Signs, line, first.column, first.text);
-    let factor = first_factor(count >= 200, r, &mut signs)?;
+    let factor = first_factor(count >= TERMS, r, &mut signs)?;
     let mono = power_parts(r, line, factor.start, factor.mono, &mut parts)?;
     Ok(Term {
         mono,
@@ -155,7 +156,7 @@ pub(crate) fn terms(
     line: u32,
     parts: &mut Parts<'_>,
 ) -> Result<Vec<Term>, PolynomialFault>
-    requires { r ≤ 16 }
+    requires { r ≤ COLUMNS }
     ensures { GivesUnlessFull (λ v. sum_of v.items) result (Rattle.git_polytext.specs.Reading.term_parts r line 0 parts.old) }
 {
     let mut terms = Vec::new(alloc);

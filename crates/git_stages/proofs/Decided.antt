@@ -8,7 +8,7 @@ use Rattle.std.specs.Int.RustNames.{unsigned_abs}
 use Rattle.std.proofs.lemmas.List.Elements.{All-nil, All-cons}
 use Rattle.git_defs.specs.Vectors.{Vector, HasRank, AreIndependent, Precedes, units, AllOfLength}
 use Rattle.git_defs.proofs.Closed.{cone_has}
-use Rattle.git_lemmas.proofs.Members.{Member}
+use Rattle.git_lemmas.specs.Members.{Member}
 use Rattle.git_defs.proofs.Lengths.{OfLength, all_of_length}
 use Rattle.git_lemmas.proofs.Members.{member_contains, contains_member, all_member, member_all}
 use Rattle.git_geometry.specs.Elimination.{InSpan, signed}

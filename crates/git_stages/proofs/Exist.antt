@@ -6,7 +6,7 @@ use Rattle.std.proofs.lemmas.List.{take_more}
 use Rattle.std.specs.Prelude.{◌<ℤ◌}
 use Rattle.git_defs.specs.Vectors.{Vector, zero_vector, scale, dot, units, IsPrimitive, AreIndependent}
 use Rattle.git_defs.specs.Cones.{Cut, InCone, AreRays}
-use Rattle.git_lemmas.proofs.Members.{Member}
+use Rattle.git_lemmas.specs.Members.{Member}
 use Rattle.git_defs.proofs.Lengths.{OfLength}
 use Rattle.git_lemmas.proofs.Members.{member_contains, contains_member}
 use Rattle.git_defs.proofs.Closed.{closed_cone, cone_closed, cone_has}

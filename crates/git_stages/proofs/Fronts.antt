@@ -3,7 +3,7 @@ use Rattle.std.proofs.Common.{◌≡◌, ◌⊎◌, ℕ, zero, suc, ◌+◌, ◌
 use Rattle.std.proofs.lemmas.List.{take_more, take_all}
 use Rattle.std.specs.Prelude.{slice_get}
 use Rattle.git_defs.specs.Vectors.{Vector}
-use Rattle.git_lemmas.proofs.Members.{Member}
+use Rattle.git_lemmas.specs.Members.{Member}
 use Rattle.git_defs.proofs.Lengths.{OfLength}
 use Rattle.git_geometry.proofs.Lists.{member_either, member_left, member_right, pick_first, pick_later}
 use Rattle.git_geometry.specs.Elimination.{IsPick}

@@ -7,7 +7,7 @@ use Rattle.std.specs.Ordering.{int_cmp, ordering_reverse, is_eq}
 use Rattle.std.specs.declared.cmp.Ordering.{Ordering}
 use Rattle.std.specs.declared.cmp.Ordering.TheVariants.{Equal, Greater, Less}
 use Rattle.git_defs.specs.Vectors.{Vector, Precedes}
-use Rattle.git_lemmas.proofs.Members.{Member}
+use Rattle.git_lemmas.specs.Members.{Member}
 use Rattle.git_lemmas.proofs.Members.{member_all}
 use Rattle.std.proofs.lemmas.List.Kept.{AllPairs-cons}
 use Rattle.std.specs.Cmp.Rules.{signed_items}

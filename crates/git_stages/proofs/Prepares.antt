@@ -8,7 +8,7 @@ use Rattle.std.proofs.lemmas.List.Elements.{All-nil, All-cons}
 use Rattle.git_defs.specs.Vectors.{Vector, zero_vector, scale, dot, IsPrimitive, HasRank}
 use Rattle.git_defs.specs.Cones.{Cut, SameSet}
 use Rattle.git_lemmas.proofs.Integers.{nonneg_of_mul, mul_nonneg}
-use Rattle.git_lemmas.proofs.Members.{Member}
+use Rattle.git_lemmas.specs.Members.{Member}
 use Rattle.git_defs.proofs.Lengths.{OfLength}
 use Rattle.git_lemmas.proofs.Members.{all_member, member_all, contains_member, member_contains}
 use Rattle.git_defs.proofs.Linear.{dot-comm, dot-scale, dot-zero, length-scale}

@@ -1,7 +1,7 @@
 -- The prepared list of some inequalities: the primitive vectors along those that are not 0, each once, in order.
 use Rattle.std.specs.Prelude.{◌≡◌, ◌↔◌, ℕ, ◌<◌, List, pos, AllPairs, Contains}
 use Rattle.git_defs.specs.Vectors.{Vector, scale, IsPrimitive, Precedes}
-use Rattle.git_lemmas.proofs.Members.{Member}
+use Rattle.git_lemmas.specs.Members.{Member}
 
 -- a is a positive multiple of the vector x
 pub record IsAlong (x a : Vector) : Type 0 where

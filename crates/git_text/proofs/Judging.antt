@@ -17,12 +17,6 @@ use Rattle.git_text.specs.Reading.{sizes_at, columns_at, matrix_at, rest_at, Jud
 pub passes : (line : ℕ) (d : Degrees) → IsGrading d.k d.columns → JudgesMatrix line d (Ok d)
 passes line d g = record { verdict = grades; right = (g.rank, g.pointed); is = refl }
 
-pub refuses_rank : (line : ℕ) (d : Degrees) → (HasRank d.k d.columns → ⊥) → JudgesMatrix line d (Err (Bad line 1 Rank))
-refuses_rank line d h = record { verdict = low_rank; right = h; is = refl }
-
-pub refuses_pointed : (line : ℕ) (d : Degrees) → HasRank d.k d.columns × HasZeroSum d.k d.columns → JudgesMatrix line d (Err (Bad line 1 Pointed))
-refuses_pointed line d h = record { verdict = unpointed; right = h; is = refl }
-
 -- ---- the lines up to the last row
 
 pub sizes_refused : (s : RestOfText) (f : FormFault) → sizes_at s ≡ Err f → ReadsGrading s (Err (form_bad f))

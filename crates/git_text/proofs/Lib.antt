@@ -6,7 +6,7 @@ pub mod ExactText
 pub mod Matrices
 pub mod Judging
 pub mod GeneratorLines
-pub mod Fronts
+pub mod MatrixTexts
 pub mod WholeTexts
 pub mod Verdicts
 pub mod NoWant

@@ -135,17 +135,15 @@ two_words : (word : List ℕ) (n : ℕ) → IsPlainWord word → n < 10 ^ 18 →
 two_words word n w lt = (w, (decimal_word n lt, tt))
 
 matrix_text : (d : Degrees) → IsGrading d.k d.columns
-    → IsMatrixText (spaced (codes "gitfan" ∷ codes "1" ∷ []) ∷ spaced (codes "grading" ∷ decimal d.k ∷ decimal (length d.columns) ∷ []) ∷ map (row_line_text d.columns) (range_with_len 0 d.k)) d
+    → IsMatrixText (spaced (codes "grading" ∷ decimal d.k ∷ decimal (length d.columns) ∷ []) ∷ map (row_line_text d.columns) (range_with_len 0 d.k)) d
 matrix_text d g =
     let k = d.k in let r = length d.columns in let m = g.matrix in
     let sizes : AllByRecursion IsPlainWord (codes "grading" ∷ decimal k ∷ decimal r ∷ []) = (record { some = omega arith; bytes = refl }, (decimal_word k (omega (arith, m.few_rows)), (decimal_word r (omega (arith, m.few_columns)), tt))) in
     record {
-      header = spaced (codes "gitfan" ∷ codes "1" ∷ []);
       sizes = spaced (codes "grading" ∷ decimal k ∷ decimal r ∷ []);
       rows = map (row_line_text d.columns) (range_with_len 0 k);
       values = rows_of_columns k d.columns;
       lines = refl;
-      header_is = refl;
       sizes_are = record {
         rank = decimal k;
         size = decimal r;
@@ -176,11 +174,13 @@ lines_inside v g a =
 
 front_written : (v : InputValue) → IsGrading v.degrees.k v.degrees.columns → AreGenerators v.degrees v.generators → IsInputFront (input_lines v) v
 front_written v g a = record {
-  matrix_lines = spaced (codes "gitfan" ∷ codes "1" ∷ []) ∷ spaced (codes "grading" ∷ decimal v.degrees.k ∷ decimal (length v.degrees.columns) ∷ []) ∷ map (row_line_text v.degrees.columns) (range_with_len 0 v.degrees.k);
+  header = spaced (codes "gitfan" ∷ codes "1" ∷ []);
+  matrix_lines = spaced (codes "grading" ∷ decimal v.degrees.k ∷ decimal (length v.degrees.columns) ∷ []) ∷ map (row_line_text v.degrees.columns) (range_with_len 0 v.degrees.k);
   ideal = spaced (codes "ideal" ∷ decimal (length v.generators) ∷ []);
   polynomials = map polynomial_text v.generators;
   end = codes "end";
   lines = refl;
+  header_is = refl;
   matrix = matrix_text v.degrees g;
   ideal_is = record {
     count = decimal (length v.generators);

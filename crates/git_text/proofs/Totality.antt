@@ -11,7 +11,7 @@ use Rattle.git_input.specs.Inputs.{InputValue}
 use Rattle.git_text.specs.Grammar.{IsInput}
 use Rattle.git_text.specs.Reading.{Verdict, judged_by, matrix_at, rest_at, JudgesRead, ReadsGrading, ReadsFront, nothing_after, whole_text, Reads, IsFirstFault}
 use Rattle.git_text.specs.Reading.Verdict.{grades, low_rank, unpointed}
-use Rattle.git_text.proofs.Fronts.{matrix_lengths}
+use Rattle.git_text.proofs.MatrixTexts.{matrix_lengths}
 use Rattle.git_text.proofs.NoWant.{Placed, placed_then, matrix_placed, rest_placed, nothing_placed}
 use Rattle.git_text.proofs.Verdicts.{judge}
 use Rattle.git_text.proofs.WholeTexts.{reading_takes}

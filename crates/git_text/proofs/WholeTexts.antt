@@ -16,7 +16,7 @@ use Rattle.git_input.specs.Inputs.{InputValue}
 use Rattle.git_text.specs.Grammar.{IsMatrixText, IsGenerator, IsInputFront, IsInput}
 use Rattle.git_text.specs.Reading.{rest_at, ReadsGrading, ReadsFront, nothing_after, whole_text, Reads, IsFirstFault}
 use Rattle.git_text.proofs.ExactText.{none_left, none_again}
-use Rattle.git_text.proofs.Fronts.{few_columns, gradings_same, grading_takes, grading_again}
+use Rattle.git_text.proofs.MatrixTexts.{IsHeaded, few_columns, gradings_same, grading_takes, grading_again}
 use Rattle.git_text.proofs.GeneratorLines.{IsRestRead, rest_takes, rest_again}
 
 -- ---- one reading
@@ -32,18 +32,20 @@ readings_same bytes a b h g = h.is ∙ ap (λ (m : Result (InputValue × RestOfT
 parted : (ms : List (List ℕ)) (ideal : List ℕ) (ps : List (List ℕ)) (end : List ℕ) (rest : List (List ℕ)) → (ms ++ (ideal ∷ ps ++ (end ∷ []))) ++ rest ≡ ms ++ (ideal ∷ ps ++ (end ∷ rest))
 parted ms ideal ps end rest = append_assoc ms (ideal ∷ ps ++ (end ∷ [])) rest ∙ ap (λ l. ms ++ (ideal ∷ l)) (append_assoc ps (end ∷ []) rest)
 
-front_made : (s between after : RestOfText) (d : Degrees) (v : InputValue) (ms : List (List ℕ)) → contents s ≡ ms ++ contents between → IsMatrixText ms d → IsRestRead d between after v
+front_made : (s between after : RestOfText) (d : Degrees) (v : InputValue) (ms : List (List ℕ)) → contents s ≡ ms ++ contents between → IsHeaded ms d → IsRestRead d between after v
     → (front : List (List ℕ)) × (contents s ≡ front ++ contents after) × IsInputFront front v
 front_made s between after d v ms lines m r = (
   ms ++ (r.ideal ∷ r.polynomials ++ (r.end ∷ [])),
   lines ∙ ap (λ l. ms ++ l) r.lines ∙ sym (parted ms r.ideal r.polynomials r.end (contents after)),
   record {
-    matrix_lines = ms;
+    header = m.header;
+    matrix_lines = m.matrix_lines;
     ideal = r.ideal;
     polynomials = r.polynomials;
     end = r.end;
-    lines = refl;
-    matrix = subst (IsMatrixText ms) (sym r.degrees) m;
+    lines = ap (λ l. l ++ (r.ideal ∷ r.polynomials ++ (r.end ∷ []))) m.lines;
+    header_is = m.header_is;
+    matrix = subst (IsMatrixText m.matrix_lines) (sym r.degrees) m.matrix;
     ideal_is = r.ideal_is;
     polynomials_are = subst (λ (d : Degrees). Together (IsGenerator d) r.polynomials v.generators) (sym r.degrees) r.polynomials_are;
     end_is = r.end_is;
@@ -59,9 +61,10 @@ front_takes s after v h =
 pub front_again : (s : RestOfText) (front rest : List (List ℕ)) (v : InputValue) → contents s ≡ front ++ rest → IsInputFront front v
     → (after : RestOfText) × ReadsFront s (Ok (v, after)) × (contents after ≡ rest)
 front_again s front rest v e i =
-    let lines : contents s ≡ i.matrix_lines ++ (i.ideal ∷ i.polynomials ++ (i.end ∷ rest)) = e ∙ ap (λ l. l ++ rest) i.lines ∙ parted i.matrix_lines i.ideal i.polynomials i.end rest in
-    let g = grading_again s i.matrix_lines (i.ideal ∷ i.polynomials ++ (i.end ∷ rest)) v.degrees lines i.matrix in
-    let r = rest_again v.degrees g.0 i.ideal i.polynomials i.end rest v.generators (few_columns i.matrix_lines v.degrees i.matrix) g.2 i.ideal_is i.polynomials_are i.end_is in
+    let headed : IsHeaded (i.header ∷ i.matrix_lines) v.degrees = record { header = i.header; matrix_lines = i.matrix_lines; lines = refl; header_is = i.header_is; matrix = i.matrix } in
+    let lines : contents s ≡ (i.header ∷ i.matrix_lines) ++ (i.ideal ∷ i.polynomials ++ (i.end ∷ rest)) = e ∙ ap (λ l. l ++ rest) i.lines ∙ parted (i.header ∷ i.matrix_lines) i.ideal i.polynomials i.end rest in
+    let g = grading_again s (i.header ∷ i.matrix_lines) (i.ideal ∷ i.polynomials ++ (i.end ∷ rest)) v.degrees lines headed in
+    let r = rest_again v.degrees g.0 i.ideal i.polynomials i.end rest v.generators (few_columns (i.header ∷ i.matrix_lines) v.degrees headed) g.2 i.ideal_is i.polynomials_are i.end_is in
     (r.0, record { matrix = Ok (v.degrees, g.0); reads = g.1; is = sym r.1 }, r.2)
 
 nothing_take : (v w : InputValue) (s : RestOfText) → nothing_after (v, s) ≡ Ok w → (contents s ≡ []) × (v ≡ w)
@@ -117,10 +120,6 @@ pub only_by : (bytes : List ℕ) (result : Result InputValue InputFault) → Fit
 only_by bytes (Ok x) h v i = one_input bytes x v (reading_takes bytes x h) i
 only_by bytes (Err NoMemory) h v i = refl
 only_by bytes (Err (Bad line column kind)) h v i = absurd (no_fault bytes v line column kind i h)
-
-pub fault_by : (bytes : List ℕ) (result : Result InputValue InputFault) → FitsUnlessFull (λ x. x) result (Reads bytes) → (line column : ℕ) (kind : BadKind)
-    → IsErrOf result (Bad line column kind) → IsFirstFault bytes line column kind
-fault_by bytes result h line column kind e = subst (λ (r : Result InputValue InputFault). FitsUnlessFull (λ x. x) r (Reads bytes)) e h
 
 pub first_by : (bytes : List ℕ) (result : Result InputValue InputFault) → FitsUnlessFull (λ x. x) result (Reads bytes) → (line column : ℕ) (kind : BadKind)
     → IsFirstFault bytes line column kind → MatchResult result (λ x. ⊥) (λ e. (e ≡ Bad line column kind) ⊎ (e ≡ NoMemory))

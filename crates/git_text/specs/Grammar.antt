@@ -11,10 +11,11 @@ use Rattle.git_polytext.specs.Grammar.{IsPolynomialLine}
 use Rattle.git_lines.specs.Lines.{lines_of, content}
 use Rattle.git_lines.specs.Tokens.{words}
 use Rattle.git_lines.specs.Grammar.{Together, IsInteger}
+use Rattle.git_limits.specs.declared.TheConstants.{ROWS, COLUMNS, COLUMN_ENTRY, GENERATORS}
 
 -- ---- a line
 
--- the first line: `gitfan 1`
+-- the first line, with the version of the text: `gitfan 1`
 abbrev pub IsHeader : List ℕ → Type 0
 IsHeader line = words line ≡ codes "gitfan" ∷ codes "1" ∷ []
 
@@ -23,25 +24,25 @@ pub record IsSizes (line : List ℕ) (k r : ℕ) : Type 0 where
   pub rank : List ℕ
   pub size : List ℕ
   pub is : words line ≡ codes "grading" ∷ rank ∷ size ∷ []
-  pub rank_is : IsInteger (pos 1) (pos 6) rank (pos k)
-  pub size_is : IsInteger (pos 1) (pos 16) size (pos r)
+  pub rank_is : IsInteger (pos 1) (pos ROWS) rank (pos k)
+  pub size_is : IsInteger (pos 1) (pos COLUMNS) size (pos r)
 
 -- a row of the matrix: R integers from -1000 to 1000
 pub record IsRow (r : ℕ) (line : List ℕ) (row : Vector) : Type 0 where
-  pub entries : Together (IsInteger (neg_ℤ (pos 1000)) (pos 1000)) (words line) row
+  pub entries : Together (IsInteger (neg_ℤ (pos COLUMN_ENTRY)) (pos COLUMN_ENTRY)) (words line) row
   pub size : length row ≡ r
 
 -- `ideal M`, with M from 0 to 64
 pub record IsIdeal (line : List ℕ) (m : ℕ) : Type 0 where
   pub count : List ℕ
   pub is : words line ≡ codes "ideal" ∷ count ∷ []
-  pub count_is : IsInteger (pos 0) (pos 64) count (pos m)
+  pub count_is : IsInteger (pos 0) (pos GENERATORS) count (pos m)
 
 -- the last line: `end`
 abbrev pub IsEnd : List ℕ → Type 0
 IsEnd line = words line ≡ codes "end" ∷ []
 
--- ---- the lines up to the last row
+-- ---- the lines of the matrix
 
 -- the column at place j of a matrix given by its rows
 abbrev pub column_of : List Vector → ℕ → Vector
@@ -51,14 +52,12 @@ column_of rows j = map (λ row. slice_index_or row j (pos 0)) rows
 abbrev pub columns_of : ℕ → List Vector → List Vector
 columns_of r rows = map (column_of rows) (range_with_len 0 r)
 
--- the lines are the text of this matrix, which has full rank and a pointed cone
-pub record IsMatrixText (front : List (List ℕ)) (d : Degrees) : Type 0 where
-  pub header : List ℕ
+-- the lines are those of the sizes and the rows of this matrix, which has full rank and a pointed cone
+pub record IsMatrixText (matrix_lines : List (List ℕ)) (d : Degrees) : Type 0 where
   pub sizes : List ℕ
   pub rows : List (List ℕ)
   pub values : List Vector
-  pub lines : front ≡ header ∷ sizes ∷ rows
-  pub header_is : IsHeader header
+  pub lines : matrix_lines ≡ sizes ∷ rows
   pub sizes_are : IsSizes sizes d.k (length d.columns)
   pub rows_are : Together (IsRow (length d.columns)) rows values
   pub all_rows : length values ≡ d.k
@@ -79,11 +78,13 @@ contents_of bytes = map content (lines_of bytes)
 
 -- the lines up to `end` are the text of this input
 pub record IsInputFront (front : List (List ℕ)) (v : InputValue) : Type 0 where
+  pub header : List ℕ
   pub matrix_lines : List (List ℕ)
   pub ideal : List ℕ
   pub polynomials : List (List ℕ)
   pub end : List ℕ
-  pub lines : front ≡ matrix_lines ++ (ideal ∷ polynomials ++ (end ∷ []))
+  pub lines : front ≡ header ∷ matrix_lines ++ (ideal ∷ polynomials ++ (end ∷ []))
+  pub header_is : IsHeader header
   pub matrix : IsMatrixText matrix_lines v.degrees
   pub ideal_is : IsIdeal ideal (length v.generators)
   pub polynomials_are : Together (IsGenerator v.degrees) polynomials v.generators

@@ -19,6 +19,7 @@ use Rattle.git_text.specs.Faults.{form_bad, polynomial_bad, as_input}
 use Rattle.git_text.specs.OneDegree.{apart}
 use Rattle.git_text.specs.Grammar.{columns_of}
 use Rattle.git_input.specs.Inputs.{InputValue}
+use Rattle.git_limits.specs.declared.TheConstants.{ROWS, COLUMNS, COLUMN_ENTRY, GENERATORS}
 
 -- ---- a line, by its number and its bytes
 
@@ -40,15 +41,15 @@ header_line line text = lift (as_header line) (header_words line text)
 unfoldable pub sizes_line : ℕ → List ℕ → Result (ℕ × ℕ) FormFault
 sizes_line line text = do
   a ← word_token (codes "grading") (rest_of_line line text)
-  k ← integer_token (pos 1) (pos 6) a
-  r ← integer_token (pos 1) (pos 16) k.1
+  k ← integer_token (pos 1) (pos ROWS) a
+  r ← integer_token (pos 1) (pos COLUMNS) k.1
   b ← no_token r.1
   Ok (unsigned_abs k.0, unsigned_abs r.0)
 
 -- a row of r entries
 unfoldable pub row_line : ℕ → ℕ → List ℕ → Result Vector InputFault
 row_line r line text = do
-  entries ← as_input (times (integer_token (neg_ℤ (pos 1000)) (pos 1000)) r (rest_of_line line text))
+  entries ← as_input (times (integer_token (neg_ℤ (pos COLUMN_ENTRY)) (pos COLUMN_ENTRY)) r (rest_of_line line text))
   b ← as_input (no_token entries.1)
   Ok entries.0
 
@@ -56,7 +57,7 @@ row_line r line text = do
 unfoldable pub ideal_line : ℕ → List ℕ → Result ℕ FormFault
 ideal_line line text = do
   a ← word_token (codes "ideal") (rest_of_line line text)
-  m ← integer_token (pos 0) (pos 64) a
+  m ← integer_token (pos 0) (pos GENERATORS) a
   b ← no_token m.1
   Ok (unsigned_abs m.0)
 

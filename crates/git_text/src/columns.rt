@@ -5,6 +5,7 @@ ghost use Rattle.git_text.specs.Views.{row_of, rows_of};
 
 use crate::rows::Row;
 use git_ints::IVec;
+use git_limits::ROWS;
 use std::alloc::{AllocError, Global};
 
 /// The entry at place `j` of a row, counted from 0.
@@ -18,11 +19,11 @@ fn entry(row: &Row, j: usize) -> i128
 /// The column at place `j`, counted from 0.
 fn column(rows: &[Row], j: usize) -> IVec
     requires some { 1 ≤ length rows.now }
-    requires few { length rows.now ≤ 6 }
+    requires few { length rows.now ≤ ROWS }
     requires wide { All (λ row. j < length (row_of row)) rows.now }
     ensures { result ≡ column_of (rows_of rows.now) j }
 {
-    let mut entries = [0i128; 6];
+    let mut entries = [0i128; ROWS];
     for (i, row) in rows.iter().enumerate() {
         entries[i] = entry(row, j);
     }
@@ -32,7 +33,7 @@ fn column(rows: &[Row], j: usize) -> IVec
 /// The columns, where each row has `r` entries.
 pub(crate) fn columns(alloc: Global, rows: &[Row], r: usize) -> Result<Vec<IVec>, AllocError>
     requires some { 1 ≤ length rows.now }
-    requires few { length rows.now ≤ 6 }
+    requires few { length rows.now ≤ ROWS }
     requires wide { All (λ row. length (row_of row) ≡ r) rows.now }
     ensures { IfOk result (λ v. v.items ≡ columns_of r (rows_of rows.now)) }
 {

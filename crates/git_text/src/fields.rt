@@ -5,6 +5,7 @@ ghost use Rattle.git_lines.specs.Reading.{Gives};
 ghost use Rattle.git_text.specs.Reading;
 ghost use Rattle.git_text.specs.Reading.{form_by, sizes_at};
 
+use git_limits::{COLUMNS, GENERATORS, ROWS};
 use git_lines::{Cursor, FormFault, FormKind, Line, Lines};
 
 /// The words of the first line.
@@ -38,14 +39,14 @@ fn header_line(line: &Line<'_>) -> Result<(), FormFault>
 fn sizes_line(line: &Line<'_>) -> Result<(usize, usize), FormFault>
     ensures reads { Gives (λ x. x) result (Rattle.git_text.specs.Reading.sizes_line line.now.number line.now.text.now) }
     ensures some_rows { IfOk result (λ x. 1 ≤ x.0) }
-    ensures few_rows { IfOk result (λ x. x.0 ≤ 6) }
+    ensures few_rows { IfOk result (λ x. x.0 ≤ ROWS) }
     ensures some_columns { IfOk result (λ x. 1 ≤ x.1) }
-    ensures few_columns { IfOk result (λ x. x.1 ≤ 16) }
+    ensures few_columns { IfOk result (λ x. x.1 ≤ COLUMNS) }
 {
     let mut words = Cursor::words(line);
     words.word_token(b"grading")?;
-    let k = words.integer_token(1, 6)?;
-    let r = words.integer_token(1, 16)?;
+    let k = words.integer_token(1, ROWS as i64)?;
+    let r = words.integer_token(1, COLUMNS as i64)?;
     words.no_token()?;
     Ok((k.unsigned_abs() as usize, r.unsigned_abs() as usize))
 }
@@ -57,7 +58,7 @@ fn ideal_line(line: &Line<'_>) -> Result<usize, FormFault>
 {
     let mut words = Cursor::words(line);
     words.word_token(b"ideal")?;
-    let m = words.integer_token(0, 64)?;
+    let m = words.integer_token(0, GENERATORS as i64)?;
     words.no_token()?;
     Ok(m.unsigned_abs() as usize)
 }
@@ -84,9 +85,9 @@ fn header(lines: &mut Lines<'_>) -> Result<(), FormFault>
 fn sizes(lines: &mut Lines<'_>) -> Result<(usize, usize), FormFault>
     ensures reads { Gives (λ x. (x, rest_of_text lines.new)) result (form_by Rattle.git_text.specs.Reading.sizes_line (rest_of_text lines.old)) }
     ensures some_rows { IfOk result (λ x. 1 ≤ x.0) }
-    ensures few_rows { IfOk result (λ x. x.0 ≤ 6) }
+    ensures few_rows { IfOk result (λ x. x.0 ≤ ROWS) }
     ensures some_columns { IfOk result (λ x. 1 ≤ x.1) }
-    ensures few_columns { IfOk result (λ x. x.1 ≤ 16) }
+    ensures few_columns { IfOk result (λ x. x.1 ≤ COLUMNS) }
 {
     let line = lines.next_line()?;
     sizes_line(&line)
@@ -97,9 +98,9 @@ fn sizes(lines: &mut Lines<'_>) -> Result<(usize, usize), FormFault>
 pub(crate) fn header_and_sizes(lines: &mut Lines<'_>) -> Result<(usize, usize), FormFault>
     ensures reads { Gives (λ x. (x, rest_of_text lines.new)) result (sizes_at (rest_of_text lines.old)) }
     ensures some_rows { IfOk result (λ x. 1 ≤ x.0) }
-    ensures few_rows { IfOk result (λ x. x.0 ≤ 6) }
+    ensures few_rows { IfOk result (λ x. x.0 ≤ ROWS) }
     ensures some_columns { IfOk result (λ x. 1 ≤ x.1) }
-    ensures few_columns { IfOk result (λ x. x.1 ≤ 16) }
+    ensures few_columns { IfOk result (λ x. x.1 ≤ COLUMNS) }
 {
     header(lines)?;
     sizes(lines)

@@ -13,6 +13,7 @@ use crate::generators::generators;
 use crate::matrix::grading;
 use git_grading::Grading;
 use git_input::Input;
+use git_limits::COLUMNS;
 use git_lines::Lines;
 use std::alloc::Global;
 
@@ -54,7 +55,7 @@ fn read_lines(alloc: Global, bytes: &[u8]) -> Result<Input, InputFault>
 pub fn announced_variables(bytes: &[u8]) -> usize
     requires { length bytes.now < 2 ^ 32 - 1 }
     ensures value { result ≡ variables_in bytes.now }
-    ensures few { result ≤ 16 }
+    ensures few { result ≤ COLUMNS }
 {
     let mut lines = Lines::new(bytes);
     match header_and_sizes(&mut lines) {

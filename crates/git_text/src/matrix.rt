@@ -11,6 +11,7 @@ use crate::fields::header_and_sizes;
 use crate::rows::matrix_rows;
 use git_grading::{Grading, GradingFault};
 use git_ints::IVec;
+use git_limits::{COLUMNS, ROWS};
 use git_lines::Lines;
 use std::alloc::Global;
 
@@ -47,9 +48,9 @@ fn columns_of_rows(
     r: usize,
 ) -> Result<Vec<IVec>, InputFault>
     requires some_rows { 1 ≤ k }
-    requires few_rows { k ≤ 6 }
+    requires few_rows { k ≤ ROWS }
     requires some_columns { 1 ≤ r }
-    requires few_columns { r ≤ 16 }
+    requires few_columns { r ≤ COLUMNS }
     ensures reads { GivesUnlessFull (λ v. (v.items, rest_of_text lines.new)) result (columns_at k r (rest_of_text lines.old)) }
     ensures matrix { IfOk result (λ v. IsMatrix k v.items) }
 {

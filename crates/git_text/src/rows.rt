@@ -9,8 +9,15 @@ ghost use Rattle.git_text.specs.Reading.{next_by, rows_at};
 ghost use Rattle.git_text.specs.Views.{row_of, rows_of};
 
 use crate::fault::InputFault;
+use git_limits::COLUMN_ENTRY;
 use git_lines::{Cursor, Line, Lines};
 use std::alloc::Global;
+
+/// The least entry of a matrix.
+const LEAST: i64 = -(COLUMN_ENTRY as i64);
+
+/// The greatest entry of a matrix.
+const MOST: i64 = COLUMN_ENTRY as i64;
 
 /// A row of a matrix.
 #[derive(Drop)]
@@ -20,11 +27,11 @@ pub(crate) struct Row {
 
 /// The next `r` integers from -1000 to 1000.
 fn entries(alloc: Global, words: &mut Cursor<'_>, r: usize) -> Result<Vec<i64>, InputFault>
-    ensures { GivesUnlessFull (λ v. (v.items, words.new)) result (as_input (times (integer_token (neg_ℤ (pos 1000)) (pos 1000)) r words.old)) }
+    ensures { GivesUnlessFull (λ v. (v.items, words.new)) result (as_input (times (integer_token (neg_ℤ (pos COLUMN_ENTRY)) (pos COLUMN_ENTRY)) r words.old)) }
 {
     let mut entries = Vec::with_capacity(alloc, r)?;
     for _ in 0..r {
-        let entry = words.integer_token(-1000, 1000)?;
+        let entry = words.integer_token(LEAST, MOST)?;
         entries.push(entry)?;
     }
     Ok(entries)

@@ -24,7 +24,8 @@ use Rattle.git_top.specs.Cases.{Case, Passes, HasOne, HasSome, Settles}
 use Rattle.git_top.specs.Refusals.{fault_text, long_text}
 use Rattle.git_listing.specs.ListingText.{listing_text}
 use Rattle.git_top.specs.Laws.{OneAnswer, EachTextHasAnAnswer, InputsAreDone}
-use Rattle.git_top.specs.Run.{input_limit, no_command, too_long, NamesFault, not_built, ListsChambers, input_answer, of_input, fan_answer, answer_to, fan_words, usage_text, unbuilt_text}
+use Rattle.git_limits.specs.declared.TheConstants.{INPUT_BYTES}
+use Rattle.git_top.specs.Run.{no_command, too_long, NamesFault, not_built, ListsChambers, input_answer, of_input, fan_answer, answer_to, fan_words, usage_text, unbuilt_text}
 use Rattle.git_top.proofs.CaseLemmas.{one_of, some_of}
 use Rattle.git_top.proofs.RunLemmas.{few_pass, input_passes}
 
@@ -99,7 +100,7 @@ not_built_settles v = elim (nat_same v.degrees.k 2) [
 ]
 
 too_long_settles : (bytes : List ℕ) → Settles (too_long bytes)
-too_long_settles bytes = elim (cases_lt input_limit (length bytes)) [ inl long ↦ inl (BadInput, long_text, (long, refl, refl)) | inr few ↦ inr (few_pass bytes few) ]
+too_long_settles bytes = elim (cases_lt INPUT_BYTES (length bytes)) [ inl long ↦ inl (BadInput, long_text, (long, refl, refl)) | inr few ↦ inr (few_pass bytes few) ]
 
 fault_settles : (bytes : List ℕ) → Settles (NamesFault bytes)
 fault_settles bytes = elim (input_or_fault bytes) [

@@ -8,7 +8,8 @@ use Rattle.git_grading.specs.Gradings.{Degrees}
 use Rattle.git_input.specs.Inputs.{InputValue}
 use Rattle.git_text.specs.Grammar.{IsInput}
 use Rattle.git_top.specs.Cases.{HasOne, HasSome}
-use Rattle.git_top.specs.Run.{answer_to, fan_words, input_limit}
+use Rattle.git_top.specs.Run.{answer_to, fan_words}
+use Rattle.git_limits.specs.declared.TheConstants.{INPUT_BYTES}
 
 -- words and bytes have one answer at most
 abbrev pub OneAnswer : Type 0
@@ -21,5 +22,5 @@ EachTextHasAnAnswer = ((bytes : List ℕ) (v : InputValue) → IsInput bytes v �
 
 -- an input with two rows and the ideal 0 that is no longer than the limit is answered by its listing
 abbrev pub InputsAreDone : Type 0
-InputsAreDone = (bytes : List ℕ) (d : Degrees) (s : Status) (text : List ℕ) → length bytes ≤ input_limit → IsInput bytes (record { degrees = d; generators = [] }) → d.k ≡ 2
+InputsAreDone = (bytes : List ℕ) (d : Degrees) (s : Status) (text : List ℕ) → length bytes ≤ INPUT_BYTES → IsInput bytes (record { degrees = d; generators = [] }) → d.k ≡ 2
     → answer_to fan_words bytes s text → s ≡ Done

@@ -1,6 +1,6 @@
 use Rattle.std.proofs.Common.{◌≡◌, take}
 use Rattle.git_defs.specs.Vectors.{Vector}
-use Rattle.git_lemmas.proofs.Members.{Member}
+use Rattle.git_lemmas.specs.Members.{Member}
 use Rattle.git_geometry.specs.Zeros.{Dominates}
 use Rattle.git_dd.specs.Marks.{vectors}
 use Rattle.git_canon.proofs.dropping.is_alone.Given as goal

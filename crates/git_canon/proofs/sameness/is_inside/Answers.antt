@@ -2,7 +2,7 @@ use Rattle.std.proofs.Common.{◌≡◌, List, take, sym, ◌∙◌, ap, subst, 
 use Rattle.std.specs.Prelude.{pos, ◌≤ℤ◌}
 use Rattle.std.proofs.lemmas.List.{take_all}
 use Rattle.git_defs.specs.Vectors.{Vector, dot}
-use Rattle.git_lemmas.proofs.Members.{Member}
+use Rattle.git_lemmas.specs.Members.{Member}
 use Rattle.git_geometry.proofs.Cuts.{cut_of, side_at}
 use Rattle.git_stages.proofs.Fronts.{member_more, member_at}
 use Rattle.git_canon.proofs.sameness.is_inside.Goals as goal

@@ -1,7 +1,7 @@
 use Rattle.std.proofs.Common.{take}
 use Rattle.std.specs.Prelude.{pos, ◌≤ℤ◌}
 use Rattle.git_defs.specs.Vectors.{Vector, dot}
-use Rattle.git_lemmas.proofs.Members.{Member}
+use Rattle.git_lemmas.specs.Members.{Member}
 use Rattle.git_canon.proofs.sameness.is_inside.Given as goal
 
 abbrev pub invariant-loop-n : goal.invariant-loop-n
