@@ -9,3 +9,5 @@ pub mod Coefficients
 pub mod Restriction
 pub mod Products
 pub mod Every
+pub mod Degrees
+pub mod Faces

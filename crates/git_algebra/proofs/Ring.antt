@@ -1,5 +1,5 @@
 -- Polynomials are a commutative ring.
-use Rattle.std.proofs.Common.{ℕ, ◌+◌, ◌*◌, ◌≡◌, refl, [], ◌∷◌, ◌++◌, ◌∙◌, ap, arith, append_assoc}
+use Rattle.std.proofs.Common.{sym, ℕ, ◌+◌, ◌*◌, ◌≡◌, refl, [], ◌∷◌, ◌++◌, ◌∙◌, ap, arith, append_assoc}
 use Rattle.git_algebra.specs.Exponents.{Exponents, one}
 use Rattle.git_algebra.specs.Sums.{Sum, value, shift, product, unit, Mod, Alike}
 use Rattle.git_algebra.specs.Polynomials.{Polynomial, normal}
@@ -47,6 +47,9 @@ unfolding plus minus
 minus-plus p q =
     same_normal (alike_trans (alike-append (normal_alike (p.terms ++ shift one 32002 q.terms)) (alike_refl q.terms)) (restored p.terms q.terms))
     ∙ normal_of p
+
+pub minus-zero : (p : Polynomial) → minus p zero_polynomial ≡ p
+minus-zero p = sym (zero-plus (minus p zero_polynomial)) ∙ plus_comm zero_polynomial (minus p zero_polynomial) ∙ minus-plus p zero_polynomial
 
 pub multiplied_comm : (p q : Polynomial) → multiplied p q ≡ multiplied q p
 unfolding multiplied

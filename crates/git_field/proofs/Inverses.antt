@@ -4,6 +4,8 @@ use borrow.Author.Tests.{lt-ltb, le-ltb}
 use Rattle.std.proofs.lemmas.Bool.{cases_lt}
 use Rattle.std.proofs.Math.Nat.{div-add-mod, add-mul-mod_self_right, mul_assoc, mod-eq_of_lt}
 use Rattle.std.proofs.lemmas.Nat.{mul-mod, mul-mod_first, mul-mod_second}
+use Rattle.git_field.specs.Inverse.{search_from}
+pub use Rattle.git_field.specs.Inverse.{inverse_of}
 use Rattle.git_field.proofs.Divisors.{no_divisor}
 
 left-complement : (left p q r : ℕ) → left * q + r ≡ p → 0 < left → q ≤ p → left * (p - q) ≡ r + (left - 1) * p
@@ -24,15 +26,6 @@ inverse_step start factor left p q r split below positive q_le same =
     ∙ ap (λ n. n % p) (left-complement left p q r split positive q_le)
     ∙ add-mul-mod_self_right r (left - 1) p
     ∙ mod-eq_of_lt below
-
--- the search for an inverse, in at most so many steps
-search_from : ℕ → ℕ → ℕ → ℕ
-search_from zero left factor = factor
-search_from (suc k) left factor = cond (ltb 1 left) (search_from k (32003 % left) (factor * (32003 - 32003 / left) % 32003)) factor
-
--- a number whose product with n is 1, for n from 1 to 32002
-pub inverse_of : ℕ → ℕ
-inverse_of n = search_from n n 1
 
 product-search_from : (k start left factor : ℕ) → left ≤ k → 0 < left → left < 32003 → start * factor % 32003 ≡ left → start * search_from k left factor % 32003 ≡ 1
 unfolding search_from

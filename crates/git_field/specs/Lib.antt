@@ -1,3 +1,4 @@
 pub mod Field
 pub mod Prime
 pub mod Laws
+pub mod Inverse

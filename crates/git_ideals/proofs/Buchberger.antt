@@ -53,10 +53,15 @@ zero_left basis f d =
     let l : Left basis f zero_polynomial = left_from basis f d.steps zero_polynomial d.reaches in
     reps_alike l.reps (alike_sym l.whole)
 
--- the pairs of a list
-pair_reps : (basis : List Polynomial) → PairsDivide basis → (i j : ℕ) → i < j → (t u : Exponents × ℕ) (a : lead_of (member basis i) ≡ Some t) (b : lead_of (member basis j) ≡ Some u)
+-- the S-polynomial of each pair of members is a sum of members times terms below their least common multiple
+abbrev pub ArePairsBelow : List Polynomial → Type 0
+ArePairsBelow basis =
+    (i j : ℕ) → i < j → (t u : Exponents × ℕ) (a : lead_of (member basis i) ≡ Some t) (b : lead_of (member basis j) ≡ Some u)
     → Reps (MemberOf basis) (rank (lcm t.0 u.0)) (s_sum (member_of (member basis i) t a) (member_of (member basis j) u b))
-pair_reps basis pairs i j less t u a b =
+
+-- pairs that divide to rest 0 are such sums
+pub pairs_below : (basis : List Polynomial) → PairsDivide basis → ArePairsBelow basis
+pairs_below basis pairs i j less t u a b =
     let s : Polynomial = s_of (member basis i) (member basis j) t u in
     reps_alike
     (reps_more (s_of_low (member basis i) (member basis j) t u a b)
@@ -75,7 +80,7 @@ same_place basis i j t u a b same =
     subst (λ (v : Exponents × ℕ). Reps (MemberOf basis) (rank (lcm t.0 v.0)) (pair_sum basis i j t v)) lead
     (subst (λ (n : ℕ). Reps (MemberOf basis) (rank (lcm t.0 t.0)) (pair_sum basis i n t t)) same (itself (member_of (member basis i) t a)))
 
-any_two : (basis : List Polynomial) → PairsDivide basis → (g h : Member) → MemberOf basis g → MemberOf basis h → Reps (MemberOf basis) (rank (lcm g.lead h.lead)) (s_sum g h)
+any_two : (basis : List Polynomial) → ArePairsBelow basis → (g h : Member) → MemberOf basis g → MemberOf basis h → Reps (MemberOf basis) (rank (lcm g.lead h.lead)) (s_sum g h)
 unfolding member_of
 any_two basis pairs g h k l =
     subst (λ (m : Member). Reps (MemberOf basis) (rank (lcm m.lead h.lead)) (s_sum m h)) (sym k.same)
@@ -89,9 +94,9 @@ any_two basis pairs g h k l =
     second = member_of (member basis l.place) l.lead l.is_lead
 
     by : (k.place < l.place) ⊎ (l.place ≤ k.place) → Reps (MemberOf basis) (rank (lcm first.lead second.lead)) (s_sum first second)
-    by (inl less) = pair_reps basis pairs k.place l.place less k.lead l.lead k.is_lead l.is_lead
+    by (inl less) = pairs k.place l.place less k.lead l.lead k.is_lead l.is_lead
     by (inr ge) = elim (cases_lt l.place k.place) [
-      | inl less ↦ turned second first (pair_reps basis pairs l.place k.place less l.lead k.lead l.is_lead k.is_lead)
+      | inl less ↦ turned second first (pairs l.place k.place less l.lead k.lead l.is_lead k.is_lead)
       | inr le ↦ same_place basis k.place l.place k.lead l.lead k.is_lead l.is_lead (omega arith)
     ]
 
@@ -148,12 +153,20 @@ some_lead m d = record {
   };
 }
 
--- the criterion for sums
-pub sums_criterion : (basis : List Polynomial) → AreNonzero basis → PairsDivide basis → (p : Sum) → SumInIdeal (terms_of basis) p → (m : Exponents) → Lead p m → SomeLeadDivides basis m
-sums_criterion basis nonzero pairs p inside m lead =
+-- what is in the ideal is a sum of members times terms
+pub some_of_ideal : (basis : List Polynomial) → AreNonzero basis → (p : Sum) → SumInIdeal (terms_of basis) p → SomeReps (MemberOf basis) p
+some_of_ideal basis nonzero p inside =
     let k : SomeReps (MemberOf basis) (sum_combination inside.cofactors (terms_of basis)) = some_combination basis nonzero inside.cofactors (terms_of basis) 0
     (λ j lt. (member_terms basis j (omega (arith, length-terms_of basis, lt)) ∙ ap (λ n. (member basis n).terms) (let e : j ≡ 0 + j = omega arith in e), omega (arith, length-terms_of basis, lt))) in
-    some_lead m (criterion (closed_from (any_two basis pairs)) k.bound p (reps_alike k.reps inside.sums) m lead)
+    record { bound = k.bound; reps = reps_alike k.reps inside.sums }
+
+-- the lead of a sum of members times terms is a multiple of a member's lead
+pub below_criterion : (basis : List Polynomial) → ArePairsBelow basis → (p : Sum) → SomeReps (MemberOf basis) p → (m : Exponents) → Lead p m → SomeLeadDivides basis m
+below_criterion basis pairs p reps m lead = some_lead m (criterion (closed_from (any_two basis pairs)) reps.bound p reps.reps m lead)
+
+-- the criterion for sums
+pub sums_criterion : (basis : List Polynomial) → AreNonzero basis → PairsDivide basis → (p : Sum) → SumInIdeal (terms_of basis) p → (m : Exponents) → Lead p m → SomeLeadDivides basis m
+sums_criterion basis nonzero pairs p inside m lead = below_criterion basis (pairs_below basis pairs) p (some_of_ideal basis nonzero p inside) m lead
 
 pub buchberger : (basis : List Polynomial) → AreNonzero basis → PairsDivide basis → (p : Polynomial) → InIdeal basis p → (lead : Exponents × ℕ) → lead_of p ≡ Some lead → SomeLeadDivides basis lead.0
 buchberger basis nonzero pairs p inside lead e = sums_criterion basis nonzero pairs p.terms (to_sums basis p inside) lead.0 (lead_of_terms p lead e)

@@ -2,16 +2,10 @@
 use Rattle.std.proofs.Common.{ℕ, ◌+◌, ◌<◌, ◌≡◌, ap, arith, ◌∙◌, cond, inl, inr}
 use Rattle.std.specs.Prelude.{◌==◌, if◌then◌else◌}
 use Rattle.std.proofs.lemmas.Bool.{cases_eq, ne_eqb}
-use Rattle.git_algebra.specs.Exponents.{Exponents, exponent, exponents_by, times, one, variable_power}
+use Rattle.git_algebra.specs.Exponents.{Exponents, exponent, times, one, variable_power}
 use Rattle.git_algebra.proofs.Monomials.{same_exponents, exponent-by, exponent-times, exponent-one}
 use Rattle.git_ideals.specs.Ideals.{y}
-
-abbrev pub extra : Exponents → ℕ
-extra a = exponent a 16
-
--- the monomial with the extra variable taken out
-unfoldable pub without_extra : Exponents → Exponents
-without_extra a = exponents_by (λ i. if i == 16 then 0 else exponent a i)
+use Rattle.git_ideals.specs.Extra.{extra, without_extra}
 
 pub without_there : (a : Exponents) → extra (without_extra a) ≡ 0
 unfolding without_extra

@@ -7,7 +7,8 @@ use Rattle.git_algebra.specs.Sums.{Sum, value, product, unit, Mod, Alike}
 use Rattle.git_algebra.proofs.Values.{value-append, value-product}
 use Rattle.git_algebra.proofs.Congruence.{mod_refl, mod_is, mod_sym, mod_trans, mod_add}
 use Rattle.git_ideals.specs.Ideals.{y}
-use Rattle.git_ideals.proofs.ExtraExponents.{extra, without_extra, extra-y, without_extra-y, extra-one, extra-times, without_extra-times, without_extra_same}
+use Rattle.git_ideals.specs.Extra.{extra, without_extra, traded, mapped}
+use Rattle.git_ideals.proofs.ExtraExponents.{extra-y, without_extra-y, extra-one, extra-times, without_extra-times, without_extra_same}
 use Rattle.git_ideals.proofs.SumIdeals.{sum_combination, SumInIdeal, ideal_alike, ideal-append, ideal-product, ideal_here, ideal_there}
 
 abbrev pub single : Exponents → Sum
@@ -66,14 +67,6 @@ fewer_than_total : (p : Sum) → Fewer (suc (total_extra p)) p
 unfolding total_extra
 fewer_than_total [] = tt
 fewer_than_total (t ∷ p) = (omega arith, fewer_more _ _ p (omega arith) (fewer_than_total p))
-
--- the extra variable as 1 / e, times e to the n
-unfoldable pub traded : Exponents → ℕ → Exponents → Exponents
-traded e n a = times (without_extra a) (power e (n - extra a))
-
-abbrev pub mapped : (Exponents → Exponents) → Sum → Sum
-mapped g [] = []
-mapped g (t ∷ p) = (g t.0, t.1) ∷ mapped g p
 
 pub value-mapped : (g : Exponents → Exponents) (f : Exponents → ℕ) (p : Sum) → value f (mapped g p) ≡ value (λ a. f (g a)) p
 value-mapped g f [] = refl

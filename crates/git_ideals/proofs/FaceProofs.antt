@@ -23,7 +23,7 @@ use Rattle.git_ideals.proofs.Buchberger.{sums_criterion}
 use Rattle.git_ideals.proofs.Divisions.{within as within_list, zero_in}
 use Rattle.git_bits.specs.Bits.{has_bit}
 
-all_at : (p : ℕ → Bool) (a n i : ℕ) → list_all p (range_with_len a n) ≡ true → a ≤ i → i < a + n → p i ≡ true
+pub all_at : (p : ℕ → Bool) (a n i : ℕ) → list_all p (range_with_len a n) ≡ true → a ≤ i → i < a + n → p i ≡ true
 all_at p a zero i e low high = absurd (omega arith)
 all_at p a (suc n) i e low high = elim (cases_eq i a) [
   | inl here ↦ ap p here ∙ first (p a) (list_all p (range_with_len (a + 1) n)) e
@@ -39,7 +39,7 @@ all_at p a (suc n) i e low high = elim (cases_eq i a) [
     second false true e = refl
     second false false e = e
 
-all_from : (p : ℕ → Bool) (a n : ℕ) → ((i : ℕ) → a ≤ i → i < a + n → p i ≡ true) → list_all p (range_with_len a n) ≡ true
+pub all_from : (p : ℕ → Bool) (a n : ℕ) → ((i : ℕ) → a ≤ i → i < a + n → p i ≡ true) → list_all p (range_with_len a n) ≡ true
 all_from p a zero each = refl
 all_from p a (suc n) each = (λ i. each a (omega arith) (omega arith) i && list_all p (range_with_len (a + 1) n)) ∙ all_from p (a + 1) n (λ k low high. each k (omega arith) (omega arith))
 
@@ -47,7 +47,7 @@ pub exponent-face : (mask i : ℕ) → i < 17 → exponent (face_monomial mask) 
 unfolding face_monomial
 exponent-face mask i h = exponent-by (λ k. if has_bit mask k then 1 else 0) i h
 
-place_le : (m : Exponents) (i : ℕ) → i < 17 → exponent m i ≤ degree m
+pub place_le : (m : Exponents) (i : ℕ) → i < 17 → exponent m i ≤ degree m
 place_le m i h = omega (arith, degree_sum m, at_place)
   where
     at_place : exponent m i ≤ sum_by (exponent m) (range_with_len 0 17)

@@ -10,3 +10,4 @@ pub mod SPolynomials
 pub mod Divisions
 pub mod Buchberger
 pub mod FaceProofs
+pub mod Existence

@@ -7,8 +7,15 @@ use Rattle.git_ideals.specs.Ideals.{combination, InIdeal, HasPower, clearing, Ha
 use Rattle.git_ideals.specs.Division.{IsRest, IsDivision, DividesToZero, IsSPolynomial, AreNonzero, PairsDivide, SomeLeadDivides}
 use Rattle.git_ideals.specs.Faces.{face_monomial, IsAFace, IsMonomialProof, IsFreeProof}
 
--- what was divided is the sum of the products of quotients with members, and the rest; the rest ends the division; and there is one answer
+-- quotients and a rest of f divided by the members
+pub record HasDivision (basis : List Polynomial) (f : Polynomial) : Type 0 where
+  pub quotients : List Polynomial
+  pub rest : Polynomial
+  pub is_division : IsDivision basis f quotients rest
+
+-- each polynomial has a division; what was divided is the sum of the products of quotients with members, and the rest; the rest ends the division; and there is one answer
 pub record DivisionLaws : Type 0 where
+  pub some : (basis : List Polynomial) (f : Polynomial) → HasDivision basis f
   pub sum : (basis : List Polynomial) (f : Polynomial) (quotients : List Polynomial) (rest : Polynomial) → IsDivision basis f quotients rest → f ≡ plus (combination quotients basis) rest
   pub rest : (basis : List Polynomial) (f : Polynomial) (quotients : List Polynomial) (rest : Polynomial) → IsDivision basis f quotients rest → IsRest basis rest
   pub one_answer : (basis : List Polynomial) (f : Polynomial) (quotients others : List Polynomial) (rest other : Polynomial) → IsDivision basis f quotients rest → IsDivision basis f others other → (quotients ≡ others) × (rest ≡ other)
@@ -24,6 +31,10 @@ abbrev pub BuchbergerCriterion : Type 0
 BuchbergerCriterion =
     (members : List Polynomial) → AreNonzero members → PairsDivide members
     → (p : Polynomial) → InIdeal members p → (lead : Exponents × ℕ) → lead_of p ≡ Some lead → SomeLeadDivides members lead.0
+
+-- there, the polynomials that divide to rest 0 are those of the ideal
+abbrev pub IdealsDivideToZero : Type 0
+IdealsDivideToZero = (members : List Polynomial) → AreNonzero members → PairsDivide members → (p : Polynomial) → InIdeal members p ↔ DividesToZero members p
 
 -- a power of a monomial is in an ideal exactly where 1 is in it with the clearing polynomial; y is in neither the monomial nor the generators
 abbrev pub ExtraVariable : Type 0

@@ -5,10 +5,10 @@
 //! above take the definitions for their contracts and the lemmas for their proofs.
 #![tactic(auto)]
 
-ghost use Rattle.git_ideals.specs.Laws.{DivisionLaws, SPolynomialLaws, BuchbergerCriterion, ExtraVariable, MonomialsDividePowers, PowersShowNoAFace, MembersShowAFace};
+ghost use Rattle.git_ideals.specs.Laws.{DivisionLaws, SPolynomialLaws, BuchbergerCriterion, IdealsDivideToZero, ExtraVariable, MonomialsDividePowers, PowersShowNoAFace, MembersShowAFace};
 
-/// What is divided is the sum of the products of quotients with members, and a rest; there is one
-/// answer.
+/// Each polynomial has quotients and a rest by a list of members, and only one. It is the sum of the
+/// products of the quotients with the members, and the rest.
 pub fn division_gives_quotients_and_rest()
     ensures { DivisionLaws }
 {}
@@ -22,6 +22,11 @@ pub fn pairs_have_one_s_polynomial()
 /// ideal is a multiple of a member's lead.
 pub fn buchberger_criterion()
     ensures { BuchbergerCriterion }
+{}
+
+/// Where the S-polynomials of pairs divide to rest 0, exactly the polynomials of the ideal do.
+pub fn ideals_divide_to_zero()
+    ensures { IdealsDivideToZero }
 {}
 
 /// A power of a monomial is in an ideal exactly where 1 is in it with the clearing polynomial.

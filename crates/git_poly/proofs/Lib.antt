@@ -8,3 +8,4 @@ pub mod Closing
 pub mod Grading
 pub mod Parting
 pub mod Ending
+mod Pieces

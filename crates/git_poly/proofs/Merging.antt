@@ -1,10 +1,10 @@
 -- Two proper sums merged into one.
-use Rattle.std.proofs.Common.{ℕ, ◌+◌, ◌*◌, ◌%◌, ◌<◌, ◌≡◌, ◌≢◌, [], ◌∷◌, ◌++◌, sym, ap, subst, arith, append_assoc, append-nil, ◌⊎◌, inl, inr}
+use Rattle.std.proofs.Common.{zero, suc, refl, ℕ, ◌+◌, ◌*◌, ◌%◌, ◌<◌, ◌≡◌, ◌≢◌, [], ◌∷◌, ◌++◌, sym, ap, subst, arith, append_assoc, append-nil, ◌⊎◌, inl, inr}
 use Rattle.std.proofs.Math.Nat.{mod-mod}
 use Rattle.git_algebra.specs.Exponents.{Exponents}
 use Rattle.git_algebra.specs.Order.{rank}
 use Rattle.git_algebra.specs.Sums.{Sum, value, Mod, Alike}
-use Rattle.git_algebra.specs.Polynomials.{Proper, RanksBelow, ranks_more}
+use Rattle.git_algebra.specs.Polynomials.{Proper, RanksBelow, ranks_more, entry}
 use Rattle.git_algebra.proofs.Ranks.{rank_injective}
 use Rattle.git_algebra.proofs.Values.{value-append}
 use Rattle.git_algebra.proofs.Congruence.{mod_refl, mod_is, mod_trans, mod_add, mod_mul, alike_refl, alike_trans}
@@ -75,7 +75,7 @@ merging_right p q out t u left right m h = record {
 both_numbers : (a b x n l r o : ℕ) → n ≡ (a + b) % 32003 → Mod (o + (n * x + (l + r))) (o + (a * x + (l + (b * x + r))))
 both_numbers a b x n l r o e = mod_trans (mod_add (mod_refl o) (mod_add (mod_mul (mod_trans (mod_is e) (record { same = mod-mod (a + b) 32003 })) (mod_refl x)) (mod_refl (l + r)))) (mod_is (omega arith))
 
-pub merging_both : (p q out : Sum) (t u : Exponents × ℕ) (n : ℕ) (left right : Sum) → Merging p q out (t ∷ left) (u ∷ right) → rank t.0 ≡ rank u.0 → n ≡ (t.1 + u.1) % 32003 → n ≢ 0 → Merging p q (out ++ ((t.0, n) ∷ [])) left right
+merging_both : (p q out : Sum) (t u : Exponents × ℕ) (n : ℕ) (left right : Sum) → Merging p q out (t ∷ left) (u ∷ right) → rank t.0 ≡ rank u.0 → n ≡ (t.1 + u.1) % 32003 → n ≢ 0 → Merging p q (out ++ ((t.0, n) ∷ [])) left right
 merging_both p q out t u n left right m h e ne =
     let same : t.0 ≡ u.0 = rank_injective t.0 u.0 h in record {
       whole = alike_trans (record {
@@ -88,7 +88,7 @@ merging_both p q out t u n left right m h e ne =
       right_proper = one_more out (t.0, n) right (subst (λ (k : Exponents). Proper (out ++ ((k, n) ∷ right))) (sym same) (proper_renumbered out u n right (omega arith) (omega arith) m.right_proper));
     }
 
-pub merging_neither : (p q out : Sum) (t u : Exponents × ℕ) (left right : Sum) → Merging p q out (t ∷ left) (u ∷ right) → rank t.0 ≡ rank u.0 → (t.1 + u.1) % 32003 ≡ 0 → Merging p q out left right
+merging_neither : (p q out : Sum) (t u : Exponents × ℕ) (left right : Sum) → Merging p q out (t ∷ left) (u ∷ right) → rank t.0 ≡ rank u.0 → (t.1 + u.1) % 32003 ≡ 0 → Merging p q out left right
 merging_neither p q out t u left right m h e =
     let same : t.0 ≡ u.0 = rank_injective t.0 u.0 h in record {
       whole = alike_trans (record {
@@ -113,3 +113,44 @@ merged_one p q out left right m (inl e) =
     subst (λ (s : Sum). IsForm ((out ++ s) ++ right) (p ++ q)) (sym e) (rw append_assoc (merged_right p q out right (subst (λ (s : Sum). Merging p q out s right) e m)))
 merged_one p q out left right m (inr e) =
     subst (λ (s : Sum). IsForm ((out ++ left) ++ s) (p ++ q)) (sym e) (rw append_assoc (subst (λ (s : Sum). IsForm (out ++ s) (p ++ q)) (sym (append-nil left)) (merged_left p q out left (subst (λ (s : Sum). Merging p q out left s) e m))))
+
+-- the next term of the second list, below which all of the first is
+pub merging_second : (p q out : Sum) (u : Exponents × ℕ) (left right : Sum) → Merging p q out left (u ∷ right) → RanksBelow (rank u.0) left → Merging p q (out ++ (u ∷ [])) left right
+merging_second p q out u left right m below = record {
+  whole = alike_trans (record { values = λ f. mod_is (omega (arith, value-append f (out ++ (u ∷ [])) (left ++ right), value-append f out (u ∷ []), value-append f left right, value-append f out (left ++ (u ∷ right)), value-append f left (u ∷ right))) }) m.whole;
+  left_proper = one_more out u left (proper_between out u right left m.right_proper m.left_proper below);
+  right_proper = one_more out u right m.right_proper;
+}
+
+-- a piece of the first list, each term above the next one of the second
+abbrev pub RanksAbove : ℕ → Sum → Type 0
+RanksAbove n [] = Unit {0}
+RanksAbove n (t ∷ p) = (n < rank t.0) × RanksAbove n p
+
+pub merging_piece : (p q out : Sum) (piece : Sum) (u : Exponents × ℕ) (left right : Sum) → Merging p q out (piece ++ left) (u ∷ right) → RanksAbove (rank u.0) piece → Merging p q (out ++ piece) left (u ∷ right)
+merging_piece p q out [] u left right m above = subst (λ (s : Sum). Merging p q s left (u ∷ right)) (sym (append-nil out)) m
+merging_piece p q out (t ∷ piece) u left right m above =
+    subst (λ (s : Sum). Merging p q s left (u ∷ right)) (append_assoc out (t ∷ []) piece)
+    (merging_piece p q (out ++ (t ∷ [])) piece u left right (merging_left p q out t u (piece ++ left) right m above.0) above.1)
+
+-- terms of one monomial, their numbers added
+pub merging_sum : (p q out : Sum) (t u : Exponents × ℕ) (n : ℕ) (left right : Sum) → Merging p q out (t ∷ left) (u ∷ right) → rank t.0 ≡ rank u.0 → n ≡ (t.1 + u.1) % 32003 → Merging p q (out ++ entry u.0 n []) left right
+merging_sum p q out t u zero left right m h e = subst (λ (s : Sum). Merging p q s left right) (sym (append-nil out)) (merging_neither p q out t u left right m h (sym e))
+merging_sum p q out t u (suc n) left right m h e =
+    subst (λ (k : Exponents). Merging p q (out ++ ((k, suc n) ∷ [])) left right) (rank_injective t.0 u.0 h)
+    (merging_both p q out t u (suc n) left right m h e (λ none. absurd (omega (arith, none))))
+
+pub entry_alone : (m : Exponents) (n : ℕ) → 0 < n → entry m n [] ≡ (m, n) ∷ []
+entry_alone m zero h = absurd (omega arith)
+entry_alone m (suc n) h = refl
+
+-- the next number of the second list isn't 0
+pub second_positive : (p q out left : Sum) (u : Exponents × ℕ) (right : Sum) → Merging p q out left (u ∷ right) → 0 < u.1
+second_positive p q out left u right m = (proper_back out (u ∷ right) m.right_proper).0
+
+pub back_proper : {p q out left right : Sum} → Merging p q out left right → Proper left
+back_proper {p} {q} {out} {left} {right} m = proper_back out left m.left_proper
+
+-- a merge at other sums
+pub moved : {p q out left right out' left' right' : Sum} → out ≡ out' → left ≡ left' → right ≡ right' → Merging p q out left right → Merging p q out' left' right'
+moved {p} {q} a b c m = subst (λ s. s) (λ i. Merging p q (a i) (b i) (c i)) m

@@ -3,7 +3,7 @@ use Rattle.std.proofs.Common.{zero, suc, ℕ, ◌≤◌, ◌≡◌, refl, List, 
 use Rattle.git_algebra.specs.Sums.{Sum, shift, product, Alike}
 use Rattle.git_algebra.specs.Polynomials.{Proper, RanksBelow}
 use Rattle.git_algebra.specs.Operations.{greatest_degree}
-use Rattle.git_algebra.proofs.Congruence.{alike_trans, alike_sym, alike-append, alike_distrib_left}
+use Rattle.git_algebra.proofs.Congruence.{alike_trans, alike_sym, alike-append, alike_comm, alike_distrib_left}
 use Rattle.git_poly.specs.declared.term.Term.{Term}
 use Rattle.git_poly.specs.Terms.{sum_of, IsForm}
 
@@ -57,3 +57,7 @@ product_of_parts ts n q front back whole h k w = record {
 pub product_of_one : (ts : List Term) (x : Term) (q whole : Sum) → sum_of ts ≡ (x.mono, x.number) ∷ [] → IsForm whole (shift x.mono x.number q) → IsForm whole (product (sum_of ts) q)
 product_of_one ts x q whole e h =
     subst (λ (s : Sum). IsForm whole (product s q)) (sym e) (subst (λ (s : Sum). IsForm whole s) (sym (append-nil (shift x.mono x.number q))) h)
+
+-- a product by the factors in the other order
+pub product_turned : (whole p q : Sum) → IsForm whole (product q p) → IsForm whole (product p q)
+product_turned whole p q h = record { whole = alike_trans h.whole (alike_comm q p); proper = h.proper }

@@ -1,5 +1,7 @@
 -- The terms of the program as sums of terms.
-use Rattle.std.specs.Prelude.{List, [], ◌∷◌}
+use Rattle.std.specs.Prelude.{ℕ, ◌<◌, ◌≤◌, ◌≡◌, List, [], ◌∷◌, length, slice_get, Some}
+use Rattle.git_algebra.specs.Exponents.{Exponents}
+use Rattle.git_algebra.specs.Order.{rank}
 use Rattle.git_algebra.specs.Sums.{Sum, Alike}
 use Rattle.git_algebra.specs.Polynomials.{Proper}
 use Rattle.git_poly.specs.declared.term.Term.{Term}
@@ -13,3 +15,10 @@ sum_of (t ∷ ts) = (t.mono, t.number) ∷ sum_of ts
 pub record IsForm (form of : Sum) : Type 0 where
   pub whole : Alike form of
   pub proper : Proper form
+
+-- the first place from the start on whose monomial isn't above m, or the length
+pub record IsFirstNotAbove (ts : List Term) (start : ℕ) (m : Exponents) (place : ℕ) : Type 0 where
+  pub later : start ≤ place
+  pub within : place ≤ length ts
+  pub above : (k : ℕ) (t : Term) → start ≤ k → k < place → slice_get ts k ≡ Some t → rank m < rank t.mono
+  pub not_above : (t : Term) → slice_get ts place ≡ Some t → rank t.mono ≤ rank m

@@ -10,7 +10,7 @@ ghost use Rattle.git_poly.specs.Degrees.{AreGradedBy, IsHomogeneous, AreApart};
 use crate::degrees::first_apart;
 use crate::fault::PolyFault;
 use crate::term::Term;
-use crate::terms::{are_in_face, kept, merged, product_of, scaled, shifted};
+use crate::terms::{are_in_face, kept, merged, merged_with_multiple, product_of, scaled, shifted};
 use git_base::NoMemory;
 use git_field::Fp;
 use git_grading::Grading;
@@ -192,14 +192,19 @@ impl Poly {
         are_in_face(mask, &self.terms)
     }
 
-    /// This less a term times another, `self - c m o`. `Degree` comes where both factors are nonzero
-    /// and the sum of their total degrees is above `MONO_DEGREE`.
-    pub fn minus_times(&self, alloc: Global, m: &Mono, c: Fp, o: &Poly) -> Result<Poly, PolyFault>
-        ensures difference { IfOk result (λ p. p ≡ minus self.now (times_term m.now c o.now)) }
-        ensures degree { (result ≡ Err PolyFault.Degree) ↔ ((c ≢ 0) × (o.now ≢ zero_polynomial) × (MONO_DEGREE < degree m.now + total_degree o.now)) }
+    /// This less a term times another, `self - c m g`, in one pass. `Degree` comes where both factors
+    /// are nonzero and the sum of their total degrees is above `MONO_DEGREE`.
+    pub fn sub_times(&self, alloc: Global, m: &Mono, c: Fp, g: &Poly) -> Result<Poly, PolyFault>
+        ensures difference { IfOk result (λ p. p ≡ minus self.now (times_term m.now c g.now)) }
+        ensures degree { (result ≡ Err PolyFault.Degree) ↔ ((c ≢ 0) × (g.now ≢ zero_polynomial) × (MONO_DEGREE < degree m.now + total_degree g.now)) }
     {
-        let product = o.times_term(alloc, m, c.neg())?;
-        let terms = merged(alloc, &self.terms, &product.terms)?;
+        if c.value() == 0 || g.is_zero() {
+            return Ok(self.copy(alloc)?);
+        }
+        if m.degree() + g.total_degree() > MONO_DEGREE {
+            return Err(PolyFault::Degree);
+        }
+        let terms = merged_with_multiple(alloc, &self.terms, m, c.neg(), &g.terms)?;
         Ok(Poly { terms })
     }
 

@@ -1,11 +1,11 @@
 //! Lists of terms in descending order: the work behind the operations of polynomials.
 
-ghost use Rattle.std.specs.Prelude.{◌≡◌, ◌≢◌, ◌+◌, ◌<◌, ◌≤◌, ◌++◌, ◌↔◌, All, IfOk, IsTrue, filter};
+ghost use Rattle.std.specs.Prelude.{◌≡◌, ◌≢◌, ◌+◌, ◌<◌, ◌≤◌, ◌++◌, ◌↔◌, All, IfOk, OnOk, IsTrue, [], filter, length};
 ghost use Rattle.git_algebra.specs.Exponents.{one, degree, in_face};
 ghost use Rattle.git_algebra.specs.Sums.{shift, product};
-ghost use Rattle.git_algebra.specs.Polynomials.{Proper};
+ghost use Rattle.git_algebra.specs.Polynomials.{Proper, entry};
 ghost use Rattle.git_algebra.specs.Operations.{greatest_degree};
-ghost use Rattle.git_poly.specs.Terms.{sum_of, IsForm};
+ghost use Rattle.git_poly.specs.Terms.{sum_of, IsForm, IsFirstNotAbove};
 
 use crate::term::Term;
 use git_base::NoMemory;
@@ -21,7 +21,7 @@ pub fn merged(alloc: Global, a: &[Term], b: &[Term]) -> Result<Vec<Term>, NoMemo
     requires right { Proper (sum_of b.now) }
     ensures { IfOk result (λ v. IsForm (sum_of v.items) (sum_of a.now ++ sum_of b.now)) }
 {
-    let mut out = Vec::new(alloc);
+    let mut out = Vec::with_capacity(alloc, a.len().saturating_add(b.len()))?;
     let mut i = 0;
     let mut j = 0;
     'merging: while i < a.len() && j < b.len() {
@@ -37,13 +37,7 @@ pub fn merged(alloc: Global, a: &[Term], b: &[Term]) -> Result<Vec<Term>, NoMemo
                 j += 1;
             }
             Ordering::Equal => {
-                let number = x.number.add(y.number);
-                if number.value() != 0 {
-                    out.push(Term {
-                        mono: x.mono,
-                        number,
-                    })?;
-                }
+                push_term(&mut out, y.mono, x.number.add(y.number))?;
                 i += 1;
                 j += 1;
             }
@@ -61,7 +55,7 @@ pub fn scaled(alloc: Global, c: Fp, a: &[Term]) -> Result<Vec<Term>, NoMemory>
     requires proper { Proper (sum_of a.now) }
     ensures { IfOk result (λ v. IsForm (sum_of v.items) (shift one c (sum_of a.now))) }
 {
-    let mut out = Vec::new(alloc);
+    let mut out = Vec::with_capacity(alloc, a.len())?;
     for t in a {
         out.push(Term {
             mono: t.mono,
@@ -79,7 +73,7 @@ pub fn shifted(alloc: Global, m: &Mono, c: Fp, a: &[Term]) -> Result<Vec<Term>, 
     requires degrees { degree m.now + greatest_degree (sum_of a.now) ≤ MONO_DEGREE }
     ensures { IfOk result (λ v. IsForm (sum_of v.items) (shift m.now c (sum_of a.now))) }
 {
-    let mut out = Vec::new(alloc);
+    let mut out = Vec::with_capacity(alloc, a.len())?;
     for t in a {
         out.push(Term {
             mono: m.times(&t.mono).unwrap(),
@@ -89,8 +83,79 @@ pub fn shifted(alloc: Global, m: &Mono, c: Fp, a: &[Term]) -> Result<Vec<Term>, 
     Ok(out)
 }
 
-/// The product of two lists: that of each half of the first, and the sum of both.
+/// The sum of a list and a term times another. The first list is gone through once, and copied in
+/// pieces.
+pub fn merged_with_multiple(
+    alloc: Global,
+    a: &[Term],
+    m: &Mono,
+    c: Fp,
+    b: &[Term],
+) -> Result<Vec<Term>, NoMemory>
+    requires some { c ≢ 0 }
+    requires below { c < MODULUS }
+    requires left { Proper (sum_of a.now) }
+    requires right { Proper (sum_of b.now) }
+    requires degrees { degree m.now + greatest_degree (sum_of b.now) ≤ MONO_DEGREE }
+    ensures { IfOk result (λ v. IsForm (sum_of v.items) (sum_of a.now ++ shift m.now c (sum_of b.now))) }
+{
+    let mut out = Vec::with_capacity(alloc, a.len().saturating_add(b.len()))?;
+    let mut i = 0;
+    for t in b {
+        let mono = m.times(&t.mono).unwrap();
+        let number = c.mul(t.number);
+        let next = first_not_above(a, i, &mono);
+        out.extend_from_slice(&a[i..next])?;
+        i = next;
+        if i < a.len() && a[i].mono == mono {
+            push_term(&mut out, mono, a[i].number.add(number))?;
+            i += 1;
+        } else {
+            push_term(&mut out, mono, number)?;
+        }
+    }
+    out.extend_from_slice(&a[i..])?;
+    Ok(out)
+}
+
+/// The first place from `start` on whose monomial isn't above `m`, or the length.
+fn first_not_above(a: &[Term], start: usize, m: &Mono) -> usize
+    requires { start ≤ length a.now }
+    ensures { IsFirstNotAbove a.now start m.now result }
+{
+    let mut i = start;
+    while i < a.len() && DegRevLex.compare(&a[i].mono, m) == Ordering::Greater {
+        i += 1;
+    }
+    i
+}
+
+/// A term at the end, left out where its number is 0.
+fn push_term(out: &mut Vec<Term>, mono: Mono, number: Fp) -> Result<(), NoMemory>
+    ensures { OnOk result (sum_of out.new.items ≡ sum_of out.old.items ++ entry mono number []) }
+{
+    if number.value() != 0 {
+        out.push(Term { mono, number })?;
+    }
+    Ok(())
+}
+
+/// The product of two lists. The shorter one is split.
 pub fn product_of(alloc: Global, a: &[Term], b: &[Term]) -> Result<Vec<Term>, NoMemory>
+    requires left { Proper (sum_of a.now) }
+    requires right { Proper (sum_of b.now) }
+    requires degrees { greatest_degree (sum_of a.now) + greatest_degree (sum_of b.now) ≤ MONO_DEGREE }
+    ensures { IfOk result (λ v. IsForm (sum_of v.items) (product (sum_of a.now) (sum_of b.now))) }
+{
+    if a.len() <= b.len() {
+        product_by_halves(alloc, a, b)
+    } else {
+        product_by_halves(alloc, b, a)
+    }
+}
+
+/// The product of two lists: that of each half of the first, and the sum of both.
+fn product_by_halves(alloc: Global, a: &[Term], b: &[Term]) -> Result<Vec<Term>, NoMemory>
     requires left { Proper (sum_of a.now) }
     requires right { Proper (sum_of b.now) }
     requires degrees { greatest_degree (sum_of a.now) + greatest_degree (sum_of b.now) ≤ MONO_DEGREE }
@@ -103,8 +168,8 @@ pub fn product_of(alloc: Global, a: &[Term], b: &[Term]) -> Result<Vec<Term>, No
         return shifted(alloc, &a[0].mono, a[0].number, b);
     }
     let half = a.len() / 2;
-    let front = product_of(alloc, &a[..half], b)?;
-    let back = product_of(alloc, &a[half..], b)?;
+    let front = product_by_halves(alloc, &a[..half], b)?;
+    let back = product_by_halves(alloc, &a[half..], b)?;
     merged(alloc, &front, &back)
 }
 

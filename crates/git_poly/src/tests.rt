@@ -97,7 +97,7 @@ fn products_merge_like_terms(rt: HostRuntime) -> Result<(), Fail> {
     let product = sum.times(alloc, &difference).unwrap_or(zero);
     assert!(rt; is_sum(alloc, &product, &[([2, 0, 0, 0], 1), ([0, 2, 0, 0], -1)])?);
     let square = sum.times(alloc, &sum).unwrap_or(product);
-    let less = square.minus_times(alloc, &monomial([0, 1, 0, 0]), Fp::reduce(2), &sum);
+    let less = square.sub_times(alloc, &monomial([0, 1, 0, 0]), Fp::reduce(2), &sum);
     let less = less.unwrap_or(difference);
     assert!(rt; is_sum(alloc, &less, &[([2, 0, 0, 0], 1), ([0, 2, 0, 0], -1)])?);
     assert!(rt;
@@ -168,7 +168,7 @@ fn products_stop_at_the_degree_limit(rt: HostRuntime) -> Result<(), Fail> {
             Some(PolyFault::Degree),
         ),
         (
-            one.minus_times(alloc, &monomial([1, 0, 0, 0]), Fp::reduce(1), &greatest),
+            one.sub_times(alloc, &monomial([1, 0, 0, 0]), Fp::reduce(1), &greatest),
             Some(PolyFault::Degree),
         ),
         (greatest.times(alloc, &one), None),

@@ -70,7 +70,7 @@ value-insert_entry f m n (t ∷ p) u = by (nat_cmp (rank m) (rank t.0)) refl (va
         omega (arith, new, old)
     by Greater e ih = omega (arith, ih)
 
-pub numbers-remove_entry : (m : Exponents) (p : Sum) → AreNumbers p → AreNumbers (remove_entry (is_at (on rank nat_cmp m)) p)
+numbers-remove_entry : (m : Exponents) (p : Sum) → AreNumbers p → AreNumbers (remove_entry (is_at (on rank nat_cmp m)) p)
 numbers-remove_entry m [] u = tt
 numbers-remove_entry m (t ∷ p) u = by (is_at (on rank nat_cmp m) t.0) (numbers-remove_entry m p u.2)
   where
@@ -78,7 +78,7 @@ numbers-remove_entry m (t ∷ p) u = by (is_at (on rank nat_cmp m) t.0) (numbers
     by true ih = u.2
     by false ih = (u.0, u.1, ih)
 
-pub numbers-insert_entry : (m : Exponents) (n : ℕ) (p : Sum) → 0 < n → n < 32003 → AreNumbers p → AreNumbers (insert_entry (on rank nat_cmp) p m n)
+numbers-insert_entry : (m : Exponents) (n : ℕ) (p : Sum) → 0 < n → n < 32003 → AreNumbers p → AreNumbers (insert_entry (on rank nat_cmp) p m n)
 numbers-insert_entry m n [] h k u = (h, k, tt)
 numbers-insert_entry m n (t ∷ p) h k u = by (nat_cmp (rank m) (rank t.0)) (numbers-insert_entry m n p h k u.2)
   where
@@ -96,14 +96,13 @@ added_alone m c old new u none e = record {
       omega (arith, whole, nothing));
 }
 
--- one term more, where its entry d was replaced by c, and that by the sum s
-replaced : (m : Exponents) (c d s : ℕ) (old middle new : Sum) → IsStrictlySortedBy (on rank nat_cmp) (keys_of old) → lookup (is_at (on rank nat_cmp m)) old ≡ Some d → middle ≡ insert_entry (on rank nat_cmp) old m c → s ≡ (c + d) % 32003
-    → ((f : Exponents → ℕ) → value f new + c * f m ≡ s * f m + value f middle) → Alike new ((m, c) ∷ old)
-replaced m c d s old middle new u found e is last = record {
+-- one term more, where the entry d of its monomial becomes the sum s
+replaced : (m : Exponents) (c d s : ℕ) (old new : Sum) → lookup (is_at (on rank nat_cmp m)) old ≡ Some d → s ≡ (c + d) % 32003
+    → ((f : Exponents → ℕ) → value f new + number_at old m * f m ≡ s * f m + value f old) → Alike new ((m, c) ∷ old)
+replaced m c d s old new found is last = record {
   values = λ f.
-      let first : value f middle + number_at old m * f m ≡ c * f m + value f old = ap (λ (p : Sum). value f p + number_at old m * f m) e ∙ value-insert_entry f m c old u in
       let there : number_at old m * f m ≡ d * f m = ap (λ (o : Option ℕ). unwrap_or o 0 * f m) found in
-      let whole : value f new + d * f m ≡ s * f m + value f old = omega (arith, first, there, last f) in
+      let whole : value f new + d * f m ≡ s * f m + value f old = omega (arith, there, last f) in
       let sum : Mod (s * f m) ((c + d) * f m) = mod_mul (record { same = ap (λ n. n % 32003) is ∙ mod-mod (c + d) 32003 }) (mod_refl (f m)) in
       less (value f new) (c * f m + value f old) (d * f m) (mod_trans (mod_is whole) (mod_trans (mod_add sum (mod_refl (value f old))) (mod_is (omega arith))));
 }
@@ -116,20 +115,22 @@ replaced m c d s old middle new u found e is last = record {
         whole : (n : ℕ) → Mod n (n + x + 32002 * x)
         whole n = record { same = let e : n + x + 32002 * x ≡ n + x * 32003 = omega arith in omega (arith, e) }
 
-pub sum_kept : (m : Exponents) (c d s : ℕ) (old middle new : Sum) → IsStrictlySortedBy (on rank nat_cmp) (keys_of old) → IsStrictlySortedBy (on rank nat_cmp) (keys_of middle) → lookup (is_at (on rank nat_cmp m)) old ≡ Some d
-    → middle ≡ insert_entry (on rank nat_cmp) old m c → lookup (is_at (on rank nat_cmp m)) middle ≡ Some c → s ≡ (c + d) % 32003 → new ≡ insert_entry (on rank nat_cmp) middle m s → Alike new ((m, c) ∷ old)
-sum_kept m c d s old middle new u v found e there is last = replaced m c d s old middle new u found e is (λ f.
-    let whole : value f new + number_at middle m * f m ≡ s * f m + value f middle = ap (λ (p : Sum). value f p + number_at middle m * f m) last ∙ value-insert_entry f m s middle v in
-    let same : number_at middle m * f m ≡ c * f m = ap (λ (o : Option ℕ). unwrap_or o 0 * f m) there in
-    omega (arith, whole, same))
+pub sum_kept : (m : Exponents) (c d s : ℕ) (old new : Sum) → IsStrictlySortedBy (on rank nat_cmp) (keys_of old) → lookup (is_at (on rank nat_cmp m)) old ≡ Some d
+    → s ≡ (c + d) % 32003 → new ≡ insert_entry (on rank nat_cmp) old m s → Alike new ((m, c) ∷ old)
+sum_kept m c d s old new u found is e = replaced m c d s old new found is (λ f. ap (λ (p : Sum). value f p + number_at old m * f m) e ∙ value-insert_entry f m s old u)
 
-pub sum_taken_out : (m : Exponents) (c d s : ℕ) (old middle new : Sum) → IsStrictlySortedBy (on rank nat_cmp) (keys_of old) → lookup (is_at (on rank nat_cmp m)) old ≡ Some d → middle ≡ insert_entry (on rank nat_cmp) old m c
-    → lookup (is_at (on rank nat_cmp m)) middle ≡ Some c → s ≡ (c + d) % 32003 → s ≡ 0 → new ≡ remove_entry (is_at (on rank nat_cmp m)) middle → Alike new ((m, c) ∷ old)
-sum_taken_out m c d s old middle new u found e there is none last = replaced m c d s old middle new u found e is (λ f.
-    let whole : value f new + number_at middle m * f m ≡ value f middle = ap (λ (p : Sum). value f p + number_at middle m * f m) last ∙ value-remove_entry f m middle in
-    let same : number_at middle m * f m ≡ c * f m = ap (λ (o : Option ℕ). unwrap_or o 0 * f m) there in
+pub sum_taken_out : (m : Exponents) (c d s : ℕ) (old new : Sum) → lookup (is_at (on rank nat_cmp m)) old ≡ Some d
+    → s ≡ (c + d) % 32003 → s ≡ 0 → new ≡ remove_entry (is_at (on rank nat_cmp m)) old → Alike new ((m, c) ∷ old)
+sum_taken_out m c d s old new found is none e = replaced m c d s old new found is (λ f.
+    let whole : value f new + number_at old m * f m ≡ value f old = ap (λ (p : Sum). value f p + number_at old m * f m) e ∙ value-remove_entry f m old in
     let zero_times : s * f m ≡ 0 * f m = ap (λ n. n * f m) none in
-    omega (arith, whole, same, zero_times))
+    omega (arith, whole, zero_times))
+
+pub numbers_put : (m : Exponents) (n : ℕ) (old new : Sum) → new ≡ insert_entry (on rank nat_cmp) old m n → 0 < n → n < 32003 → AreNumbers old → AreNumbers new
+numbers_put m n old new e some below u = subst AreNumbers (sym e) (numbers-insert_entry m n old some below u)
+
+pub numbers_left : (m : Exponents) (old new : Sum) → new ≡ remove_entry (is_at (on rank nat_cmp m)) old → AreNumbers old → AreNumbers new
+numbers_left m old new e u = subst AreNumbers (sym e) (numbers-remove_entry m old u)
 
 -- the first terms of a list, and one more
 take_next : (p : Sum) (i : ℕ) (t : Exponents × ℕ) → slice_get p i ≡ Some t → take (i + 1) p ≡ take i p ++ t ∷ []

@@ -12,6 +12,7 @@ use git_mono::{MONO_DEGREE, Mono};
 use git_poly::Poly;
 use std::alloc::Global;
 use std::collections::BTreeMap;
+use std::collections::btree_map::Entry;
 use std::marker::Model;
 
 /// A polynomial by its monomials, so that a multiple of a short one is taken away at a few places.
@@ -85,7 +86,7 @@ impl Dividend {
     }
 }
 
-/// One term more.
+/// One term more. The map is searched once.
 fn add_term(terms: &mut BTreeMap<Mono, Fp>, m: Mono, c: Fp) -> Result<(), NoMemory>
     requires { AreNumbers terms.old.entries }
     ensures sum { OnOk result (Alike terms.new.entries ((m, c) ∷ terms.old.entries)) }
@@ -94,12 +95,17 @@ fn add_term(terms: &mut BTreeMap<Mono, Fp>, m: Mono, c: Fp) -> Result<(), NoMemo
     if c.value() == 0 {
         return Ok(());
     }
-    if let Some(old) = terms.insert(m, c)? {
-        let sum = c.add(old);
-        if sum.value() == 0 {
-            terms.remove(&m);
-        } else {
-            terms.insert(m, sum)?;
+    match terms.entry(m)? {
+        Entry::Vacant(entry) => {
+            entry.insert(c);
+        }
+        Entry::Occupied(mut entry) => {
+            let sum = c.add(*entry.get());
+            if sum.value() == 0 {
+                entry.remove();
+            } else {
+                entry.insert(sum);
+            }
         }
     }
     Ok(())

@@ -25,5 +25,5 @@ pub fn s_poly(alloc: Global, f: &Poly, g: &Poly) -> Result<Poly, PolyFault>
     };
     let first = f.times_term(alloc, &multiple.quotient(&top.0), top.1.inverse().unwrap())?;
     let number = other.1.inverse().unwrap();
-    first.minus_times(alloc, &multiple.quotient(&other.0), number, g)
+    first.sub_times(alloc, &multiple.quotient(&other.0), number, g)
 }

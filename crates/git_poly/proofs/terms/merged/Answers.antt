@@ -7,13 +7,9 @@ use Rattle.git_algebra.specs.Order.{rank}
 use Rattle.git_algebra.specs.Sums.{Sum}
 use Rattle.git_poly.specs.Terms.{sum_of, IsForm}
 use Rattle.git_poly.proofs.TermLists.{sum_of-append, next_term, none_left}
-use Rattle.git_poly.proofs.Merging.{Merging, merging_left, merging_right, merging_both, merging_neither, merged_one}
+use Rattle.git_poly.proofs.Merging.{merging_left, merging_right, merging_sum, merged_one, moved}
 use Rattle.git_poly.proofs.terms.merged.Goals as goal
-use Rattle.git_poly.proofs.terms.merged.Goals.{then-value-ne0+in_ok-push-in-Equal, else-value-ne0, then-merging-test+else-j-b, else-merging-test}
-
--- a record at other sums
-moved : {p q out left right out' left' right' : Sum} → out ≡ out' → left ≡ left' → right ≡ right' → Merging p q out left right → Merging p q out' left' right'
-moved {p} {q} a b c m = subst (λ s. s) (λ i. Merging p q (a i) (b i) (c i)) m
+use Rattle.git_poly.proofs.terms.merged.Goals.{then-merging-test+else-j-b, else-merging-test}
 
 pub merging-preserved-in-Greater : goal.merging-preserved-in-Greater
 merging-preserved-in-Greater c =
@@ -42,22 +38,15 @@ merging-preserved-in-Less c =
 pub merging-preserved : goal.merging-preserved
 merging-preserved c =
     let now = c.merging.invariant in
-    let a = next_term c.args.a.now c.merging.i c.index-a-i.result c.index-a-i.is (omega arith) in
-    let b = next_term c.args.b.now c.merging.j c.index-b-j.result c.index-b-j.is (omega arith) in
     let x = c.index-a-i.result in
     let y = c.index-b-j.result in
+    let a = next_term c.args.a.now c.merging.i x c.index-a-i.is (omega arith) in
+    let b = next_term c.args.b.now c.merging.j y c.index-b-j.is (omega arith) in
     let same : rank x.mono ≡ rank y.mono = ranked _ _ Equal c.in-Equal.ensures in
     record {
       left_in = omega arith;
       right_in = omega arith;
-      so_far = elim c.if-value-ne0.branch [
-        | then-value-ne0+in_ok-push-in-Equal w ↦
-            let out = ap (λ (v : Vec Term Global). sum_of v.items) w.out-is ∙ ap sum_of w.in_ok-push-in-Equal.ensures.items ∙ sum_of-append c.merging.out.items (record { mono = x.mono; number = c.add-number.result } ∷ []) in
-            moved (sym out) refl refl (merging_both _ _ _ (x.mono, x.number) (y.mono, y.number) c.add-number.result _ _ (moved refl a b now.so_far) same c.add-number.ensures (λ e. w.if-value-ne0.true (c.value.ensures.same ∙ e)))
-        | else-value-ne0 w ↦
-            let out = ap (λ (v : Vec Term Global). sum_of v.items) w.out-is in
-            moved (sym out) refl refl (merging_neither _ _ _ (x.mono, x.number) (y.mono, y.number) _ _ (moved refl a b now.so_far) same (sym c.add-number.ensures ∙ sym c.value.ensures.same ∙ w.if-value-ne0.false))
-      ];
+      so_far = moved (sym c.in_ok-push_term-in-Equal.ensures) refl refl (merging_sum _ _ _ (x.mono, x.number) (y.mono, y.number) c.add.result _ _ (moved refl a b now.so_far) same c.add.ensures);
     }
 
 pub returns : goal.returns

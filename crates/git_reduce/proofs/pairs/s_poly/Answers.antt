@@ -18,12 +18,12 @@ pub quotient-requires-2 : goal.quotient-requires-2
 quotient-requires-2 c = second_divides c.in-Some.multiple c.unwrap-top.result.0 c.unwrap-other.result.0 c.in-Some.ensures.some
 
 pub returns-clause-s_polynomial : goal.returns-clause-s_polynomial
-returns-clause-s_polynomial c = IfOk-weaker c.minus_times.result _ _ (λ s e.
+returns-clause-s_polynomial c = IfOk-weaker c.sub_times.result _ _ (λ s e.
     is_s_polynomial c.args.f.now c.args.g.now c.in_ok-first.first s c.unwrap-top.result c.unwrap-other.result c.in-Some.multiple c.quotient.result c.quotient-2.result c.unwrap.result c.unwrap-number.result
     (sym c.lead.ensures.lead ∙ c.unwrap-top.ensures) (sym c.lead-2.ensures.lead ∙ c.unwrap-other.ensures) c.in-Some.ensures.some c.quotient.ensures
     (subst (λ (o : Option ℕ). IfSome o (λ i. (c.unwrap-top.result.1 * i) % 32003 ≡ 1)) c.unwrap.ensures c.inverse.ensures.some) c.quotient-2.ensures
     (subst (λ (o : Option ℕ). IfSome o (λ i. (c.unwrap-other.result.1 * i) % 32003 ≡ 1)) c.unwrap-number.ensures c.inverse-2.ensures.some) c.in_ok-first.ensures.product e)
-    c.minus_times.ensures.difference
+    c.sub_times.ensures.difference
 
 pub returns-in_err-first-clause-degree : goal.returns-in_err-first-clause-degree
 returns-in_err-first-clause-degree c =
@@ -42,6 +42,6 @@ returns-clause-degree c =
     let not_above : 67108864 < degree (lcm c.unwrap-top.result.0 c.unwrap-other.result.0) → ⊥ = λ h. let e = c.in-Some.ensures.none.1 h in absurd cc in (
       λ e. absurd (not_above (subst (λ (m : Exponents). 67108864 < degree m) c.in-Some.ensures.some
           (raised_degree 67108864 c.args.g.now c.unwrap-other.result c.in-Some.multiple c.quotient-2.result other (second_divides c.in-Some.multiple c.unwrap-top.result.0 c.unwrap-other.result.0 c.in-Some.ensures.some) c.quotient-2.ensures
-          (c.minus_times.ensures.degree.0 e).2))),
+          (c.sub_times.ensures.degree.0 e).2))),
       λ h. absurd (not_too_high 67108864 c.args.f.now c.args.g.now c.unwrap-top.result c.unwrap-other.result (sym c.lead.ensures.lead ∙ c.unwrap-top.ensures) other not_above h),
     )

@@ -8,10 +8,10 @@ use Rattle.git_algebra.specs.Operations.{greatest_degree}
 use Rattle.git_poly.specs.declared.term.Term.{Term}
 use Rattle.git_poly.specs.Terms.{sum_of, IsForm}
 use Rattle.git_poly.proofs.Splitting.{proper-take, proper-drop, greatest_degree-take, greatest_degree-drop, product_of_parts}
-use Rattle.git_poly.proofs.terms.+product_of.Goals as goal
+use Rattle.git_poly.proofs.terms.+product_by_halves.Goals as goal
 
-pub product_of-requires : goal.product_of-requires
-product_of-requires t c =
+pub product_by_halves-requires : goal.product_by_halves-requires
+product_by_halves-requires t c =
     let some : length c.args.a.now ≢ 0 = λ e. absurd (eqb-false _ _ (sym c.is_empty.ensures ∙ c.if-is_empty.false) e) in
     let shorter : length (take (length c.args.a.now / 2) c.args.a.now) < length c.args.a.now = omega (arith, length-take (length c.args.a.now / 2) c.args.a.now, some, c.if-a-eq1.false) in (
       search rules,
@@ -21,8 +21,8 @@ product_of-requires t c =
       ),
     )
 
-pub product_of-requires-2 : goal.product_of-requires-2
-product_of-requires-2 t c =
+pub product_by_halves-requires-2 : goal.product_by_halves-requires-2
+product_by_halves-requires-2 t c =
     let rest : take (length c.args.a.now - length c.args.a.now / 2) (drop (length c.args.a.now / 2) c.args.a.now) ≡ drop (length c.args.a.now / 2) c.args.a.now = take_rest c.args.a.now (length c.args.a.now / 2) in
     let some : length c.args.a.now ≢ 0 = λ e. absurd (eqb-false _ _ (sym c.is_empty.ensures ∙ c.if-is_empty.false) e) in
     let shorter : length (take (length c.args.a.now - length c.args.a.now / 2) (drop (length c.args.a.now / 2) c.args.a.now)) < length c.args.a.now =
