@@ -138,7 +138,6 @@ fn events_happen_where_they_are_enabled(rt: HostRuntime) -> Result<(), Fail> {
         (Kind::Take, 2, 0, false),
         (Kind::Take, 0, 1, false),
         (Kind::Take, 0, 0, true),
-        // taken already
         (Kind::Take, 1, 0, false),
         (Kind::Quiet, 0, 0, false),
         // its next isn't listed
@@ -147,7 +146,6 @@ fn events_happen_where_they_are_enabled(rt: HostRuntime) -> Result<(), Fail> {
         (Kind::Publish, 1, 1, false),
         (Kind::Publish, 0, 0, false),
         (Kind::Publish, 0, 1, true),
-        // listed already
         (Kind::Publish, 0, 1, false),
         (Kind::Meet, 0, 1, true),
         // not in its next
