@@ -1,0 +1,3 @@
+pub mod Grows
+pub mod Closes
+pub mod Ordered
