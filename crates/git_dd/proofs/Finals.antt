@@ -109,7 +109,7 @@ module _ (k : ℕ) (given prepared base free rays rest : List Vector) (is_prepar
       (λ v m. p.spanned v (subst (Member v) (sym (take_all (length prepared) prepared (omega arith))) m))
 
   pub has_rank : HasRank k given
-  has_rank = full_rank k given (subst (HaveIndependent k given) full rank.reached)
+  has_rank = full_rank k given (short_length k given given_short) (subst (HaveIndependent k given) full rank.reached)
 
   pub late_wide : (stage : ℕ) (what : WideWhat) → IsLateWide k ordered stage what → IsWideAt k given stage what
   late_wide stage what w =
@@ -162,4 +162,4 @@ rank_from k given n have r h =
     let c = r.reached in
     let few = independent_at_most k (units k) c.chosen (units_of_length k) (λ v m. units_span k v (have.each v (contains_member v given (all_member (Contains given) v c.chosen c.from m)))) c.independent in
     let e : n ≡ k = (let a = c.count in let b = length-units k in omega (arith, few, a, b, h)) in
-    full_rank k given (subst (HaveIndependent k given) e c)
+    full_rank k given have (subst (HaveIndependent k given) e c)
