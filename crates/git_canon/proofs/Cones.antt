@@ -4,8 +4,8 @@ use Rattle.std.proofs.Math.IntN.{ℤ, pos, ◌*ℤ◌, pos-*ℤ-pos}
 use Rattle.std.proofs.lemmas.Int.{ints}
 use Rattle.std.specs.Prelude.{All, AllPairs, Contains, ◌↔◌, ◌<ℤ◌, slice_get, Some}
 use Rattle.git_defs.specs.Vectors.{Vector, zero_vector, scale, dot, IsPrimitive, HasRank, Precedes, vector_sum}
-use Rattle.git_defs.specs.Cones.{InCone, OnRay, Cut, Dual, SameSet, IsPointed, AreRays, AreFacets}
-use Rattle.git_defs.proofs.Closed.{IsClosed, positive_or_zero, closed_cone, cone_closed, cone_has}
+use Rattle.git_defs.specs.Cones.{InCone, OnRay, Cut, Dual, SameSet, IsPointed, IsClosed, AreRays, AreFacets}
+use Rattle.git_defs.proofs.Closed.{positive_or_zero, closed_cone, cone_closed, cone_has}
 use Rattle.git_lemmas.specs.Members.{Member}
 use Rattle.git_defs.proofs.Lengths.{OfLength, of_length_all}
 use Rattle.git_lemmas.proofs.Members.{contains_member, member_contains, member_all, all_member}
