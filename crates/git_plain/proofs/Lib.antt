@@ -1,3 +1,4 @@
 pub mod Grows
 pub mod Closes
 pub mod Ordered
+pub mod Listed

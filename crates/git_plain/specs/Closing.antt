@@ -4,7 +4,7 @@ use Rattle.std.specs.List.{All, AllPairs, Contains}
 use Rattle.std.specs.declared.cmp.Ordering.TheVariants.{Less}
 use Rattle.git_machine.specs.declared.successors.Found.{Found}
 use Rattle.git_machine.specs.Signatures.{Signature, signature_cmp}
-use Rattle.git_machine.specs.Reach.{IsOnce, LeadsTo, Reached, IsReach}
+use Rattle.git_machine.specs.Reach.{IsOnce, LeadsTo, Reached}
 
 -- the signatures of what is found
 abbrev pub signatures_of : {P : Type 0} → List (Found P) → List Signature

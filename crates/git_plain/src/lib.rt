@@ -3,6 +3,7 @@
 #![tactic(auto)]
 
 mod close;
+pub mod laws;
 mod listing;
 
 pub use close::close_over;

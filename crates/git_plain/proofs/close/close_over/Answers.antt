@@ -1,9 +1,7 @@
-use Rattle.std.proofs.Common.{◌≡◌, ◌<◌, ◌≤◌, ℕ, List, length, map, sym, ◌∙◌, ap, subst, arith}
+use Rattle.std.proofs.Common.{arith}
 use Rattle.std.proofs.lemmas.List.{length-map}
-use Rattle.std.specs.List.Sorted.{IsPermutation}
-use Rattle.std.proofs.lemmas.List.Sorted.{All-permutation, length_permutation, IsPermutation-map}
+use Rattle.std.proofs.lemmas.List.Sorted.{All-permutation, IsPermutation-map}
 use Rattle.git_machine.specs.declared.successors.Found.{Found}
-use Rattle.git_machine.specs.Signatures.{Signature}
 use Rattle.git_machine.proofs.Once.{reach_exceeds}
 use Rattle.git_plain.specs.Closing.{signatures_of}
 use Rattle.git_plain.proofs.Ordered.{reach_permuted, strictly, sorted_signatures}

@@ -1,5 +1,5 @@
-use Rattle.std.proofs.Common.{◌≡◌, ◌<◌, ◌≤◌, ◌+◌, ℕ, List, Option, Some, [], ◌∷◌, ◌++◌, length, take, map, get_or, slice_get, slice_index_or, sym, ◌∙◌, ap, subst, rules, arith, refl, length-append, append_assoc}
-use Rattle.std.specs.List.{All, Contains}
+use Rattle.std.proofs.Common.{◌≡◌, ◌<◌, ◌≤◌, ◌+◌, ℕ, List, Some, [], ◌∷◌, ◌++◌, length, take, get_or, slice_get, sym, ◌∙◌, ap, subst, rules, length-append}
+use Rattle.std.specs.List.{All}
 use Rattle.std.proofs.lemmas.List.Elements.{All-contains, All-push}
 use Rattle.std.proofs.lemmas.Option.{slice_get_within, get_or_from_slice_get}
 use Rattle.git_machine.specs.declared.successors.Found.{Found}
