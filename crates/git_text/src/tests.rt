@@ -1,5 +1,6 @@
 //! Texts worked by hand.
 use super::*;
+use git_input::Input;
 use git_grading::Grading;
 use git_ints::IVec;
 use git_mono::Mono;
