@@ -14,7 +14,7 @@ use git_poly::Poly;
 use std::alloc::Global;
 
 /// A power of the product of the face's variables, the exponent being at most 2^20.
-pub(crate) fn face_power(mask: u16, exponent: u32) -> Mono
+pub fn face_power(mask: u16, exponent: u32) -> Mono
     requires { exponent ≤ CERT_POWER }
     ensures { result ≡ power (face_monomial mask) exponent }
 {
@@ -29,7 +29,7 @@ pub(crate) fn face_power(mask: u16, exponent: u32) -> Mono
 }
 
 /// 1 less the extra variable times the product of the face's variables.
-pub(crate) fn clearing_of(alloc: Global, mask: u16) -> Result<Poly, NoMemory>
+pub fn clearing_of(alloc: Global, mask: u16) -> Result<Poly, NoMemory>
     ensures { IfOk result (λ p. p ≡ clearing (face_monomial mask)) }
 {
     let extra = Mono::power(16, 1).unwrap();

@@ -12,6 +12,7 @@ mod laws;
 mod monomial;
 
 pub use certificate::{Accepted, CERT_DEGREE, CERT_POWER, FaceCert, FaceVerdict, Place};
+pub use face::{clearing_of, face_power};
 pub use judging::accept;
 pub use laws::{
     accepted_free_certificates_show_a_faces, accepted_monomial_certificates_show_none,

@@ -1,0 +1,6 @@
+pub mod StartLists
+pub mod Variables
+pub mod Powers
+pub mod Free
+pub mod Monomial
+pub mod Deciding
