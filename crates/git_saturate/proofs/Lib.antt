@@ -3,4 +3,5 @@ pub mod Variables
 pub mod Powers
 pub mod Free
 pub mod Monomial
-pub mod Deciding
+pub mod Verdicts
+pub mod TradedTerms

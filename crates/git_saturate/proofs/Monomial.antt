@@ -1,5 +1,5 @@
 -- Cofactors of 1 over a face's start give an accepted monomial certificate.
-use Rattle.std.proofs.Common.{ℕ, zero, suc, ◌+◌, ◌-◌, ◌*◌, ◌^◌, ◌<◌, ◌≤◌, ◌≡◌, ◌⊎◌, refl, List, [], ◌∷◌, ◌++◌, All, map, length, get_or, Option, Some, None, IsTrue, sym, ◌∙◌, ap, subst, arith, inl, inr}
+use Rattle.std.proofs.Common.{ℕ, zero, suc, ◌+◌, ◌-◌, ◌*◌, ◌^◌, ◌<◌, ◌≤◌, ◌≡◌, ◌⊎◌, refl, List, [], ◌∷◌, ◌++◌, All, map, length, get_or, take, Option, Some, None, IsTrue, sym, ◌∙◌, ap, subst, arith, inl, inr}
 use Rattle.std.specs.Prelude.{◌≢◌, max}
 use Rattle.std.proofs.lemmas.Bool.{cases_lt, cases_eq}
 use Rattle.std.specs.List.{range_with_len, sum_by}
@@ -68,7 +68,7 @@ every_all : (P : Exponents → Type 0) (ps : List Polynomial) → All (λ p. Eve
 every_all P [] u = tt
 every_all P (p ∷ ps) u = (u 0 p (omega arith), every_all P ps (λ k d h. u (suc k) d (omega arith)))
 
-all_front : (P : Polynomial → Type 0) (ps : List Polynomial) (p : Polynomial) → All P (ps ++ p ∷ []) → All P ps
+pub all_front : (P : Polynomial → Type 0) (ps : List Polynomial) (p : Polynomial) → All P (ps ++ p ∷ []) → All P ps
 all_front P [] p u = λ k d h. absurd (omega arith)
 all_front P (q ∷ ps) p u = by (all_front P ps p (λ k d h. u (suc k) d (omega arith)))
   where
@@ -84,7 +84,7 @@ all_both P Q R g f (p ∷ ps) u v = by (all_both P Q R g f ps (λ k d h. u (suc 
     by ih zero d h = f p (u 0 p (omega arith)) (v 0 p (omega arith))
     by ih (suc k) d h = ih k d (omega arith)
 
-length-map : (g : Polynomial → Polynomial) (ps : List Polynomial) → length (map g ps) ≡ length ps
+pub length-map : (g : Polynomial → Polynomial) (ps : List Polynomial) → length (map g ps) ≡ length ps
 length-map g [] = refl
 length-map g (p ∷ ps) = ap suc (length-map g ps)
 
@@ -101,10 +101,10 @@ degree-power : (e : Exponents) (n : ℕ) → degree (power e n) ≡ n * degree e
 degree-power e zero = ap degree (power-zero e) ∙ degree-one ∙ omega arith
 degree-power e (suc n) = ap degree (power-suc e n) ∙ degree-times e (power e n) ∙ (let ih : degree (power e n) ≡ n * degree e = degree-power e n in omega arith)
 
-face_degree : (mask : ℕ) → mask < 65536 → degree (face_monomial mask) ≤ 17
+pub face_degree : (mask : ℕ) → mask < 65536 → degree (face_monomial mask) ≤ 17
 face_degree mask small = omega (arith, ap degree (power_one (face_monomial mask)), ap degree (power_whole mask 1 small), degree_small mask 1 16)
 
-degree-traded : (e : Exponents) (n : ℕ) (a : Exponents) → n ≤ 1048576 → degree e ≤ 17 → degree a ≤ 1048576 → degree (traded e n a) ≤ 33554432
+pub degree-traded : (e : Exponents) (n : ℕ) (a : Exponents) → n ≤ 1048576 → degree e ≤ 17 → degree a ≤ 1048576 → degree (traded e n a) ≤ 33554432
 unfolding traded
 degree-traded e n a small few le =
     let p : (n - extra a) * degree e ≤ 1048576 * 17 = mul-le (n - extra a) (degree e) 1048576 17 (omega arith) few in
@@ -172,7 +172,7 @@ top_small : (p : Sum) → Every (λ a. degree a ≤ 1048576) p → greatest_extr
 top_small [] u = omega arith
 top_small (t ∷ p) u = omega (arith, place_le t.0 16 (omega arith), top_small p u.1, u.0)
 
-all_top_small : (ps : List Polynomial) → All (λ p. total_degree p ≤ 1048576) ps → greatest_extra_of ps ≤ 1048576
+pub all_top_small : (ps : List Polynomial) → All (λ p. total_degree p ≤ 1048576) ps → greatest_extra_of ps ≤ 1048576
 all_top_small [] u = omega arith
 all_top_small (p ∷ ps) u = omega (arith, top_small p.terms (every_degree 1048576 p.terms (u 0 p (omega arith))), all_top_small ps (λ k d h. u (suc k) d (omega arith)))
 
@@ -224,3 +224,43 @@ parted_unit generators mask cs u = parted cs (length (nonzero_part (map (restric
 
 pub monomial_certificate : (generators : List Polynomial) (mask : ℕ) (cs : List Polynomial) → mask < 65536 → IsUnitSum (start_of generators mask) cs → HasMonomialCertificate generators mask
 monomial_certificate generators mask cs small u = record { exponent = _; cofactors = _; accepted = accepted_monomial generators mask cs small u (parted_unit generators mask cs u) }
+
+-- the parts, by number
+whole_last : (cs : List Polynomial) (n : ℕ) → length cs ≡ suc n → cs ≡ take n cs ++ get_or cs n zero_polynomial ∷ []
+whole_last [] n e = absurd (omega arith)
+whole_last (c ∷ []) zero e = refl
+whole_last (c ∷ (d ∷ cs)) zero e = absurd (omega arith)
+whole_last (c ∷ cs) (suc n) e = ap (λ (ds : List Polynomial). c ∷ ds) (whole_last cs n (omega arith))
+
+length-front : (cs : List Polynomial) (n : ℕ) → n ≤ length cs → length (take n cs) ≡ n
+length-front cs zero h = taken_none cs
+  where
+    taken_none : (cs : List Polynomial) → length (take 0 cs) ≡ 0
+    taken_none [] = refl
+    taken_none (c ∷ cs) = refl
+length-front [] (suc n) h = absurd (omega arith)
+length-front (c ∷ cs) (suc n) h = ap suc (length-front cs n (omega arith))
+
+pub unit_parts : (generators : List Polynomial) (mask : ℕ) (cs : List Polynomial) → IsUnitSum (start_of generators mask) cs → Parted cs (length (nonzero_part (map (restricted mask) generators)))
+unit_parts generators mask cs u =
+    let n : ℕ = length (nonzero_part (map (restricted mask) generators)) in
+    let long : length cs ≡ suc (length (nonzero_part (map (restricted mask) generators))) = u.one_each ∙ one_longer (nonzero_part (map (restricted mask) generators)) (clearing (face_monomial mask)) in
+    record {
+      front = take (length cs - 1) cs;
+      last = get_or cs (length cs - 1) zero_polynomial;
+      is = whole_last cs (length cs - 1) (omega (arith, long));
+      count = length-front cs (length cs - 1) (omega arith) ∙ omega (arith, long);
+    }
+
+pub power_small : (generators : List Polynomial) (mask : ℕ) (cs : List Polynomial) (u : IsUnitSum (start_of generators mask) cs) → greatest_extra_of (take (length cs - 1) cs) ≤ 1048576
+unfolding unit_parts
+power_small generators mask cs u =
+    let k = unit_parts generators mask cs u in
+    all_top_small (take (length cs - 1) cs) (all_front (λ p. total_degree p ≤ 1048576) (take (length cs - 1) cs) k.last (subst (λ (ds : List Polynomial). All (λ p. total_degree p ≤ 1048576) ds) k.is u.small))
+
+pub made_monomial : (generators : List Polynomial) (mask : ℕ) (cs : List Polynomial) (power : ℕ) (cofactors : List Polynomial) → mask < 65536 → IsUnitSum (start_of generators mask) cs → power ≡ greatest_extra_of (take (length cs - 1) cs)
+    → cofactors ≡ spread mask generators (map (traded_polynomial (face_monomial mask) power) (take (length cs - 1) cs)) → IsAcceptedMonomial generators mask power cofactors
+unfolding unit_parts
+made_monomial generators mask cs power cofactors small u e is =
+    subst (λ (hs : List Polynomial). IsAcceptedMonomial generators mask power hs) (sym is)
+    (subst (λ n. IsAcceptedMonomial generators mask n (spread mask generators (map (traded_polynomial (face_monomial mask) n) (take (length cs - 1) cs)))) (sym e) (accepted_monomial generators mask cs small u (unit_parts generators mask cs u)))

@@ -1,3 +1,5 @@
 pub mod Starts
 pub mod Traded
+pub mod Stops
+pub mod Verdicts
 pub mod Laws

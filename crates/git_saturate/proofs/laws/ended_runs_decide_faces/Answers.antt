@@ -1,4 +1,4 @@
-use Rattle.git_saturate.proofs.Deciding.{free, monomial, a_face}
+use Rattle.git_saturate.proofs.Verdicts.{free, monomial, a_face}
 use Rattle.git_saturate.proofs.laws.ended_runs_decide_faces.Goals as goal
 
 pub returns : goal.returns
