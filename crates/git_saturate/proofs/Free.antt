@@ -1,5 +1,5 @@
 -- An ended run of a face without a lead 1 gives an accepted free certificate: its members.
-use Rattle.std.proofs.Common.{ℕ, zero, suc, ◌+◌, ◌*◌, ◌<◌, ◌≤◌, ◌≡◌, refl, List, [], ◌∷◌, ◌++◌, All, map, length, length-append, get_or, Option, Some, None, sym, ◌∙◌, ap, subst, arith, inl, inr, ◌⊎◌}
+use Rattle.std.proofs.Common.{ℕ, zero, suc, ◌+◌, ◌*◌, ◌<◌, ◌≤◌, ◌≡◌, refl, List, [], ◌∷◌, ◌++◌, All, map, length, length-append, get_or, Option, Some, None, sym, ◌∙◌, ap, subst, arith, inl, inr}
 use Rattle.std.specs.Prelude.{◌≢◌}
 use Rattle.git_algebra.specs.Exponents.{Exponents, times, one, degree}
 use Rattle.git_algebra.specs.Sums.{value, at as at_monomial, Mod}

@@ -1,32 +1,26 @@
 -- Cofactors of 1 over a face's start give an accepted monomial certificate.
-use Rattle.std.proofs.Common.{ℕ, zero, suc, ◌+◌, ◌-◌, ◌*◌, ◌^◌, ◌<◌, ◌≤◌, ◌≡◌, ◌⊎◌, refl, List, [], ◌∷◌, ◌++◌, All, map, length, get_or, take, Option, Some, None, IsTrue, sym, ◌∙◌, ap, subst, arith, inl, inr}
-use Rattle.std.specs.Prelude.{◌≢◌, max}
-use Rattle.std.proofs.lemmas.Bool.{cases_lt, cases_eq}
-use Rattle.std.specs.List.{range_with_len, sum_by}
+use Rattle.std.proofs.Common.{ℕ, zero, suc, ◌+◌, ◌-◌, ◌*◌, ◌<◌, ◌≤◌, ◌≡◌, refl, List, [], ◌∷◌, ◌++◌, All, map, length, get_or, take, Option, Some, None, IsTrue, sym, ◌∙◌, ap, subst, arith, inl, inr}
+use Rattle.std.proofs.lemmas.Bool.{cases_eq}
 use Rattle.std.proofs.lemmas.Nat.{mul-le}
-use Rattle.std.proofs.lemmas.List.Sums.{get_or-le-sum_by}
-use Rattle.std.proofs.lemmas.List.FromFn.{get_or-range_with_len}
-use Rattle.git_algebra.specs.Exponents.{Exponents, exponent, times, one, power, degree, in_face, Divides}
+use Rattle.git_algebra.specs.Exponents.{Exponents, exponent, power, degree, in_face, Divides}
 use Rattle.git_algebra.specs.Sums.{Sum, product, unit, Alike}
 use Rattle.git_algebra.specs.Polynomials.{Polynomial, normal}
-use Rattle.git_algebra.specs.Operations.{zero_polynomial, one_polynomial, plus, multiplied, restricted, lead_of, greatest_degree, total_degree, IsInFace}
-use Rattle.git_algebra.proofs.Monomials.{degree-times, degree-one, degree_sum, divides_exactly, power-zero, power-suc}
+use Rattle.git_algebra.specs.Operations.{zero_polynomial, plus, multiplied, restricted, lead_of, total_degree, IsInFace}
+use Rattle.git_algebra.proofs.Monomials.{degree-times, degree-one, divides_exactly, power-zero, power-suc}
 use Rattle.git_algebra.proofs.Values.{value-append}
 use Rattle.git_algebra.proofs.Congruence.{mod_is, alike_refl, alike_sym, alike_trans, alike-append, alike-product_right}
-use Rattle.git_algebra.proofs.Normal.{normal_alike, same_from_alike}
+use Rattle.git_algebra.proofs.Normal.{same_from_alike}
 use Rattle.git_algebra.proofs.Ring.{zero-plus, zero-multiplied}
 use Rattle.git_algebra.proofs.Every.{Every, every-normal, every_from_all, all_from_every}
-use Rattle.git_ideals.specs.Ideals.{combination, monomial, clearing, y}
+use Rattle.git_ideals.specs.Ideals.{combination, monomial, clearing}
 use Rattle.git_ideals.specs.Division.{member}
 use Rattle.git_ideals.specs.Faces.{face_monomial}
 use Rattle.git_ideals.proofs.SumIdeals.{sum_combination}
 use Rattle.git_ideals.proofs.Conversions.{terms_of, combination_alike, monomial_alike, one_alike, clearing_alike}
 use Rattle.git_ideals.specs.Extra.{extra, without_extra, traded, mapped}
 use Rattle.git_ideals.proofs.ExtraExponents.{without_there, without_elsewhere}
-use Rattle.git_ideals.proofs.ExtraVariable.{single, clear}
+use Rattle.git_ideals.proofs.ExtraVariable.{clear}
 use Rattle.git_ideals.proofs.FaceProofs.{power_in_face, place_le}
-use Rattle.git_ideals.proofs.Divisions.{zero_has_no_lead}
-use Rattle.git_ideals.proofs.Buchberger.{no_lead}
 use Rattle.git_facecert.specs.Certificates.{IsCofactor, IsAcceptedMonomial}
 use Rattle.git_facecert.proofs.FacePowers.{power_one, power_whole, degree_small}
 use Rattle.git_basis.specs.Units.{IsUnitSum}

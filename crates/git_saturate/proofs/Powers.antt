@@ -1,15 +1,14 @@
 -- From cofactors of 1 to a power of the face's monomial: the extra variable stands for the inverse of that monomial.
-use Rattle.std.proofs.Common.{ℕ, zero, suc, ◌+◌, ◌-◌, ◌*◌, ◌%◌, ◌<◌, ◌≤◌, ◌≡◌, ◌⊎◌, refl, List, [], ◌∷◌, ◌++◌, map, length, sym, ◌∙◌, ap, subst, arith, inl, inr, zero-add}
-use Rattle.std.specs.Prelude.{max}
+use Rattle.std.proofs.Common.{ℕ, zero, suc, ◌+◌, ◌*◌, ◌<◌, ◌≤◌, ◌≡◌, ◌⊎◌, refl, List, [], ◌∷◌, ◌++◌, map, sym, ◌∙◌, ap, subst, arith, inl, inr, zero-add}
 use Rattle.std.proofs.lemmas.Bool.{cases_lt}
-use Rattle.git_algebra.specs.Exponents.{Exponents, times, one, power, degree}
+use Rattle.git_algebra.specs.Exponents.{Exponents, times, one, power}
 use Rattle.git_algebra.specs.Order.{rank}
-use Rattle.git_algebra.specs.Sums.{Sum, value, shift, product, unit, at as at_monomial, coefficient, Mod, Alike}
-use Rattle.git_algebra.specs.Polynomials.{Polynomial, Proper, RanksBelow, normal}
+use Rattle.git_algebra.specs.Sums.{Sum, value, product, unit, at as at_monomial, coefficient, Mod, Alike}
+use Rattle.git_algebra.specs.Polynomials.{Polynomial, Proper, RanksBelow}
 use Rattle.git_algebra.proofs.Monomials.{times_comm, times-one}
 use Rattle.git_algebra.proofs.Ranks.{rank_injective}
 use Rattle.git_algebra.proofs.Values.{value-append, value-product}
-use Rattle.git_algebra.proofs.Congruence.{mod_refl, mod_is, mod_sym, mod_trans, mod_add, mod_mul, alike_refl, alike_trans, alike-append, alike-product_left}
+use Rattle.git_algebra.proofs.Congruence.{mod_refl, mod_is, mod_sym, mod_trans, mod_add, alike_refl, alike_trans, alike-append, alike-product_left}
 use Rattle.git_algebra.proofs.Leads.{at_other, at-times}
 use Rattle.git_algebra.proofs.Normal.{normal_alike, at_head}
 use Rattle.git_algebra.proofs.Every.{Every}

@@ -5,7 +5,7 @@ use Rattle.std.proofs.lemmas.Bool.{cases_eq}
 use Rattle.std.proofs.Math.Seq.{drop-cons}
 use Rattle.std.proofs.lemmas.List.{take_more, take_all}
 use Rattle.std.proofs.lemmas.Option.{slice_get_within, get_or_from_slice_get}
-use Rattle.git_algebra.specs.Exponents.{Exponents, exponent, times, quotient, power, variable_power, degree, Divides}
+use Rattle.git_algebra.specs.Exponents.{Exponents, exponent, times, quotient, power, variable_power, Divides}
 use Rattle.git_algebra.specs.Sums.{Sum}
 use Rattle.git_algebra.specs.Polynomials.{Polynomial, normal}
 use Rattle.git_algebra.specs.Operations.{zero_polynomial, term_of, plus, restricted, lead_of}

@@ -1,13 +1,13 @@
 -- The variables of a face and the extra one: bit 16 of a mask.
-use Rattle.std.proofs.Common.{ℕ, zero, suc, ◌+◌, ◌*◌, ◌^◌, ◌<◌, ◌≤◌, ◌≡◌, refl, List, [], ◌∷◌, ◌++◌, All, Bool, true, false, IsTrue, sym, ◌∙◌, ap, subst, arith, inl, inr, eq-eqb}
+use Rattle.std.proofs.Common.{ℕ, zero, suc, ◌+◌, ◌^◌, ◌<◌, ◌≡◌, refl, [], ◌∷◌, Bool, true, false, IsTrue, sym, ◌∙◌, ap, subst, arith, inl, inr, eq-eqb}
 use Rattle.std.specs.Prelude.{◌/◌, ◌%◌, ◌==◌, ◌||◌}
 use Rattle.std.proofs.lemmas.Bool.{cases_eq, cases_lt, ne_eqb}
 use Rattle.git_bits.specs.Bits.{has_bit}
 use Rattle.git_bits.proofs.Bits.{bit_of_part, bit_clear}
-use Rattle.git_algebra.specs.Exponents.{Exponents, exponent, times, one, variable_power, in_face}
+use Rattle.git_algebra.specs.Exponents.{Exponents, exponent, times, in_face}
 use Rattle.git_algebra.specs.Sums.{Sum}
 use Rattle.git_algebra.specs.Polynomials.{Polynomial}
-use Rattle.git_algebra.specs.Operations.{one_polynomial, term_of, minus, restricted, IsInFace}
+use Rattle.git_algebra.specs.Operations.{one_polynomial, restricted, IsInFace}
 use Rattle.git_algebra.proofs.Every.{Every, all_from_every}
 use Rattle.git_algebra.proofs.Faces.{both_in, minus_in, one_in, term_in, restricted_in_face}
 use Rattle.git_ideals.specs.Ideals.{clearing, monomial, y}

@@ -40,7 +40,12 @@ fn monomial(
 }
 
 /// The verdict of a face for some generators.
-fn decide(alloc: Global, generators: &[Poly], mask: u16, steps: u64) -> Result<Verdict, SatFault>
+pub(crate) fn decide(
+    alloc: Global,
+    generators: &[Poly],
+    mask: u16,
+    steps: u64,
+) -> Result<Verdict, SatFault>
     requires few { length generators.now ≤ 64 }
     requires small { All (λ f. total_degree f ≤ RUN_DEGREE) generators.now }
     requires steps { steps ≤ RUN_STEPS }

@@ -13,3 +13,6 @@ pub use decision::Verdict;
 pub use fault::SatFault;
 pub use laws::ended_runs_decide_faces;
 pub use starting::start;
+
+#[cfg(test)]
+mod tests;

@@ -1,10 +1,10 @@
-use Rattle.std.proofs.Common.{◌≡◌, ◌≤◌, ◌<◌, List, All, length, map, refl, sym, ap, subst, ◌∙◌, arith}
+use Rattle.std.proofs.Common.{◌≤◌, List, All, length, map, refl, sym, ap, subst, ◌∙◌, arith}
 use Rattle.git_algebra.specs.Polynomials.{Polynomial}
 use Rattle.git_algebra.specs.Operations.{restricted, total_degree}
 use Rattle.git_ideals.specs.Ideals.{clearing}
 use Rattle.git_ideals.specs.Division.{AreNonzero}
 use Rattle.git_ideals.specs.Faces.{face_monomial}
-use Rattle.git_saturate.specs.Starts.{nonzero_part, start_of}
+use Rattle.git_saturate.specs.Starts.{nonzero_part}
 use Rattle.git_saturate.proofs.StartLists.{length-part, one_longer}
 use Rattle.git_saturate.proofs.Free.{start_nonzero, start_small}
 use Rattle.git_saturate.proofs.Verdicts.{free_from, none_is_some, refuted, shown}

@@ -1,4 +1,4 @@
-use Rattle.std.proofs.Common.{◌≡◌, List, IsTrue, ap, subst, ◌∙◌}
+use Rattle.std.proofs.Common.{List, IsTrue, ap, subst, ◌∙◌}
 use Rattle.std.specs.Prelude.{◌↔◌, IfOk}
 use Rattle.git_algebra.specs.Polynomials.{Polynomial}
 use Rattle.git_input.specs.Inputs.{InputValue}

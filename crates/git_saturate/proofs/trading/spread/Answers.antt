@@ -1,4 +1,4 @@
-use Rattle.std.proofs.Common.{◌≡◌, ◌≤◌, ◌+◌, ◌++◌, ◌∷◌, [], ap, sym, ◌∙◌, subst, arith, length, map, List, Vec, Global}
+use Rattle.std.proofs.Common.{◌≤◌, ◌+◌, ◌++◌, ap, sym, ◌∙◌, subst, arith, map, List, Vec, Global}
 use Rattle.git_algebra.specs.Polynomials.{Polynomial}
 use Rattle.git_algebra.specs.Operations.{total_degree}
 use Rattle.git_ideals.specs.Faces.{face_monomial}

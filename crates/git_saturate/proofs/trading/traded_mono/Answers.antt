@@ -1,7 +1,7 @@
-use Rattle.std.proofs.Common.{rules, ◌≡◌, ◌<◌, ◌≤◌, ◌-◌, ap, subst, sym, ◌∙◌, arith}
+use Rattle.std.proofs.Common.{rules, ◌≡◌, ◌-◌, ap, subst, sym, ◌∙◌, arith}
 use Rattle.git_lemmas.proofs.Options.{some_unless_none}
 use Rattle.git_algebra.specs.Exponents.{Exponents, times, quotient, power, variable_power, degree, Divides}
-use Rattle.git_ideals.specs.Extra.{extra, traded}
+use Rattle.git_ideals.specs.Extra.{extra}
 use Rattle.git_ideals.specs.Faces.{face_monomial}
 use Rattle.git_ideals.proofs.FaceProofs.{place_le}
 use Rattle.git_saturate.proofs.TradedTerms.{extra_divides, traded_from}

@@ -1,4 +1,4 @@
-use Rattle.std.proofs.Common.{◌∙◌, ap, arith}
+use Rattle.std.proofs.Common.{◌∙◌, arith}
 use Rattle.git_ideals.specs.Faces.{face_monomial}
 use Rattle.git_reduce.proofs.TermMaps.{degree_at}
 use Rattle.git_saturate.proofs.TradedTerms.{none_traded, one_more_traded, all_traded}
