@@ -1,7 +1,7 @@
 //! Texts worked by hand.
 use super::*;
-use git_input::Input;
 use git_grading::Grading;
+use git_input::Input;
 use git_ints::IVec;
 use git_mono::Mono;
 use git_polytext::print_poly;
