@@ -4,3 +4,11 @@ pub mod Sieves
 pub mod Sweeps
 pub mod Pairs
 pub mod FullMasks
+pub mod Signatures
+pub mod Bits
+pub mod Fans
+pub mod Walls
+pub mod Existence
+pub mod Descriptions
+pub mod Settled
+pub mod Accepted

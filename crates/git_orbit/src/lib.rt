@@ -2,10 +2,16 @@
 #![tactic(auto)]
 
 mod faces;
+mod germ;
 mod keys;
+pub mod laws;
 mod orbit;
+mod signs;
+mod words;
 
+pub use germ::Germ;
 pub use orbit::{Cones, ConesFault, OrbitCone};
+pub use signs::{held, sign};
 
 #[cfg(test)]
 mod tests;
