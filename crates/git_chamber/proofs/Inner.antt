@@ -1,0 +1,150 @@
+-- Chambers are described by their rays and facets; weights are inside; which sets are legal.
+use Rattle.std.proofs.Common.{◌≡◌, ◌≢◌, ◌↔◌, ◌∙◌, ◌∷◌, [], ◌<◌, ◌≤◌, List, ap, arith, length, map, refl, subst, suc, sym, zero, ℕ}
+use Rattle.std.proofs.Math.IntN.{ℤ, negsuc, pos}
+use Rattle.std.proofs.lemmas.Int.{ints}
+use Rattle.std.specs.Prelude.{◌<ℤ◌, ◌≤ℤ◌, All, Contains}
+use Rattle.git_defs.specs.Vectors.{AllOfLength, HasRank, Vector, dot, units, vector_sum}
+use Rattle.git_defs.specs.Cones.{AreFacets, Cut, Dual, InCone, SameSet}
+use Rattle.git_defs.proofs.Lengths.{OfLength, all_of_length, more_of_length, none_of_length, of_length_all}
+use Rattle.git_lemmas.specs.Members.{Member}
+use Rattle.git_lemmas.proofs.Members.{all_member, contains_member, member_all, member_contains}
+use Rattle.git_geometry.specs.Generators.{Generates, IsCutOut}
+use Rattle.git_geometry.specs.Germs.{EndsWithUnits, first_sign, sign_at}
+use Rattle.git_geometry.proofs.Cuts.{cut_of, side_at}
+use Rattle.git_geometry.proofs.Facets.{facets_same, rays_generate}
+use Rattle.git_geometry.proofs.Independence.{rank_pointed}
+use Rattle.git_geometry.proofs.Inside.{germ_of_length, inside_of_sum, inside_rank, length-vector_sum}
+use Rattle.git_geometry.proofs.Minkowski.{generators_of_length, generators_same, minkowski}
+use Rattle.git_geometry.proofs.Rays.{dual_along, rays_along, same_back, same_through}
+use Rattle.git_geometry.proofs.Signs.{holds_of_signs, signs_of_holds}
+use Rattle.git_machine.specs.Signatures.{Has, Signature}
+use Rattle.git_orbit.specs.Orbits.{Fan, IsFan}
+use Rattle.git_orbit.specs.Signatures.{InChamber, IsLegal, IsSignature, cone_in, facets_at}
+use Rattle.git_orbit.proofs.Signatures.{one_signature}
+use Rattle.git_orbit.proofs.Walls.{weight_in}
+use Rattle.git_chamber.specs.Views.{FanChamber}
+use Rattle.git_chamber.specs.Chambers.{IsBehind, IsChamber, IsGood, crossing}
+use Rattle.git_chamber.specs.Nexts.{crossing_ends, facets_have, rays_have}
+use Rattle.git_chamber.specs.declared.cell.Side.TheVariants.{Inner}
+use Rattle.git_chamber.proofs.Existence.{walls_exist}
+use Rattle.git_chamber.proofs.Facets.{cone_facets, walls_cut, walls_have, walls_point, walls_rank}
+
+module _ (fan : Fan) (sig : Signature) (is : IsFan fan.k fan.list) (legal : IsLegal fan sig) where
+  module _ (rays facets : List Vector) (weight : Vector) (chamber : IsChamber fan sig rays facets weight) where
+    abbrev walls : List Vector
+    walls = (walls_exist fan sig is legal).0
+
+    cut : SameSet (Cut fan.k walls) (InChamber fan sig)
+    cut = walls_cut fan sig is legal walls (walls_exist fan sig is legal).1
+
+    back : SameSet (InChamber fan sig) (Cut fan.k walls)
+    back = same_back (Cut fan.k walls) (InChamber fan sig) cut
+
+    generates : Generates fan.k walls rays
+    generates =
+        let are = (walls_exist fan sig is legal).1 in
+        rays_generate fan.k walls rays (rank_pointed fan.k walls (walls_have fan sig is legal walls are) (walls_rank fan sig is legal walls are))
+        (rays_along fan.k (InChamber fan sig) (Cut fan.k walls) rays back chamber.rays_are)
+
+    pub generated : SameSet (InChamber fan sig) (InCone fan.k rays)
+    generated = same_through (InChamber fan sig) (Cut fan.k walls) (InCone fan.k rays) back (generators_same fan.k walls rays generates)
+
+    rays_full : HasRank fan.k rays
+    rays_full = inside_rank fan.k walls rays generates (walls_point fan sig is legal walls (walls_exist fan sig is legal).1)
+
+    pub cut_out : SameSet (InChamber fan sig) (Cut fan.k facets)
+    cut_out =
+        let here : AreFacets fan.k (InCone fan.k rays) facets = rays_along fan.k (Dual fan.k (InChamber fan sig)) (Dual fan.k (InCone fan.k rays)) facets (dual_along fan.k (InChamber fan sig) (InCone fan.k rays) generated) chamber.facets_are in
+        same_through (InChamber fan sig) (InCone fan.k rays) (Cut fan.k facets) generated (facets_same fan.k rays facets (rays_have fan sig rays legal chamber.rays_are) rays_full here)
+
+    pub weight_inside : All (λ n. pos 0 <ℤ dot n weight) facets
+    weight_inside = member_all (λ (n : Vector). pos 0 <ℤ dot n weight) facets (λ n m.
+        let f = (chamber.facets_are.each n).0 (member_contains n facets m) in
+        subst (λ (w : Vector). pos 0 <ℤ dot n w) (sym chamber.weight_is)
+        (inside_of_sum fan.k rays facets (rays_have fan sig rays legal chamber.rays_are) rays_full (facets_have fan sig facets chamber.facets_are)
+        (λ a o. ((chamber.facets_are.each a).0 (member_contains a facets o)).edge.nonzero)
+        (λ a v o p. ((chamber.facets_are.each a).0 (member_contains a facets o)).edge.member.sides v ((chamber.rays_are.each v).0 (member_contains v rays p)).edge.member) n m))
+
+  pub weight_tells : (c : FanChamber) → IsGood fan sig c → (i : ℕ) → Has sig i ↔ ((i < length fan.list) × cone_in fan i c.weight)
+  weight_tells c good =
+      let entries : length c.weight ≡ fan.k = ap length good.chamber.weight_is ∙ length-vector_sum fan.k c.rays (rays_have fan sig c.rays legal good.chamber.rays_are) in
+      weight_in fan c.weight sig entries good.own
+
+  -- k independent vectors that all cones hold
+  pub common_vectors : (vs : List Vector) × All (InChamber fan sig) vs × HasRank fan.k vs
+  common_vectors =
+      let w = walls_exist fan sig is legal in
+      let m = minkowski fan.k w.0 in
+      let same = walls_cut fan sig is legal w.0 w.1 in (
+        m.list,
+        member_all (InChamber fan sig) m.list (λ v o. (same v).0 (m.generates.inside v o)),
+        inside_rank fan.k w.0 m.list m.generates (walls_point fan sig is legal w.0 w.1),
+      )
+
+pub rays_tell : (fan : Fan) (sig other : Signature) (c d : FanChamber) → IsGood fan sig c → IsGood fan other d → c.rays ≡ d.rays → sig ≡ other
+rays_tell fan sig other c d p q e =
+    let w : c.weight ≡ d.weight = p.chamber.weight_is ∙ ap (vector_sum fan.k) e ∙ sym q.chamber.weight_is in
+    one_signature fan (d.weight ∷ []) sig other (subst (λ (v : Vector). IsSignature fan (v ∷ []) sig) w p.own) q.own
+
+pub inner_leads_on : (fan : Fan) (sig next : Signature) (rays facets : List Vector) (weight n : Vector) → IsLegal fan sig → IsChamber fan sig rays facets weight
+    → Contains facets n → IsBehind fan rays n (Inner next) → IsLegal fan next
+inner_leads_on fan sig next rays facets weight n legal chamber in_facets behind =
+    let low = ((legal.is.each legal.member).0 legal.has_member).0 in
+    let some : 0 < length fan.list = omega (arith, low) in
+    record {
+      germ = crossing fan.k rays n;
+      ends = crossing_ends fan.k rays n (rays_have fan sig rays legal chamber.rays_are) ((facets_have fan sig facets chamber.facets_are).each n (contains_member n facets in_facets));
+      is = behind.1;
+      member = 0;
+      has_member = (behind.1.each 0).1 (some, behind.0);
+    }
+
+-- ---- the sum of independent vectors
+positive_first : (z : ℤ) (zs : List ℤ) → pos 0 <ℤ z → first_sign (z ∷ zs) ≢ negsuc 0
+positive_first (pos zero) zs h e = absurd (omega (arith, ints, h))
+positive_first (pos (suc n)) zs h e = absurd (omega (arith, ints, e))
+positive_first (negsuc n) zs h e = absurd (omega (arith, ints, h))
+
+not_negative_first : (z : ℤ) (zs : List ℤ) → first_sign (z ∷ zs) ≢ negsuc 0 → pos 0 ≤ℤ z
+not_negative_first (pos n) zs h = omega (arith, ints)
+not_negative_first (negsuc n) zs h = absurd (h refl)
+
+module _ (fan : Fan) (sig : Signature) (vs : List Vector) (is : IsFan fan.k fan.list) (have : OfLength fan.k vs) (rank : HasRank fan.k vs) (held : All (InChamber fan sig) vs)
+    (signature : IsSignature fan (vector_sum fan.k vs ∷ []) sig) where
+  abbrev sum : Vector
+  sum = vector_sum fan.k vs
+
+  abbrev germ : List Vector
+  germ = sum ∷ units fan.k
+
+  sum_entries : length sum ≡ fan.k
+  sum_entries = length-vector_sum fan.k vs have
+
+  ends : EndsWithUnits fan.k germ
+  ends = record { front = sum ∷ []; is = refl; entries = of_length_all fan.k (sum ∷ []) (more_of_length fan.k sum [] sum_entries (none_of_length fan.k)) }
+
+  germ_have : OfLength fan.k germ
+  germ_have = germ_of_length fan.k germ ends
+
+  signature_of_germ : IsSignature fan germ sig
+  signature_of_germ = record {
+    width = signature.width;
+    words = signature.words;
+    each = λ i. (
+      λ has.
+          let low = ((signature.each i).0 has).0 in
+          let f = cone_facets fan is i low in
+          let ns = facets_at fan i in
+          let inside = inside_of_sum fan.k vs ns have rank (record { each = λ n m. (f.short n m).entries }) f.nonzero
+          (λ n v m o. side_at (all_member (InChamber fan sig) v vs held o i has) n m) in
+          (low, holds_of_signs fan.k ns germ germ_have (member_all (λ (n : Vector). sign_at n germ ≢ negsuc 0) ns (λ n m. positive_first (dot n sum) (map (dot n) (units fan.k)) (inside n m)))),
+      λ p. (weight_in fan sum sig sum_entries signature i).1 (
+        p.0,
+        cut_of sum_entries (λ n m. not_negative_first (dot n sum) (map (dot n) (units fan.k))
+            (all_member (λ (v : Vector). sign_at v germ ≢ negsuc 0) n (facets_at fan i) (signs_of_holds fan.k (facets_at fan i) germ germ_have p.1) m)),
+      ),
+    );
+  }
+
+  pub sum_legal : (member : ℕ) → Has sig member → IsLegal fan sig
+  sum_legal member has = record { germ = germ; ends = ends; is = signature_of_germ; member = member; has_member = has }

@@ -1,0 +1,11 @@
+pub mod RaySums
+pub mod UnitGerms
+pub mod Few
+pub mod Graphs
+pub mod Facets
+pub mod Cells
+pub mod Crossings
+pub mod Firsts
+pub mod Existence
+pub mod Uniqueness
+pub mod Inner

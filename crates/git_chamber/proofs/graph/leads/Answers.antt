@@ -1,0 +1,19 @@
+use Rattle.std.proofs.Common.{◌≡◌, ◌^◌, ◌∙◌, List, All, ap, subst, sym}
+use Rattle.git_defs.specs.Vectors.{Vector}
+use Rattle.git_ints.specs.Padded.{AreWithin}
+use Rattle.git_stages.specs.Short.{IsShort}
+use Rattle.git_chamber.specs.Views.{FanChamber}
+use Rattle.git_chamber.specs.Chambers.{IsCell}
+use Rattle.git_chamber.specs.declared.cell.Cell.TheVariants.{Good}
+use Rattle.git_chamber.proofs.Crossings.{short_of}
+use Rattle.git_chamber.proofs.Graphs.{rays_of_length}
+use Rattle.git_chamber.proofs.graph.leads.Goals as goal
+
+pub crossings-requires-clause-rays : goal.crossings-requires-clause-rays
+crossings-requires-clause-rays c =
+    let fan = c.args.cones.now in
+    let ch = c.in-Good.c in
+    let good : IsCell fan c.args.sig.now (Good ch) = subst (IsCell fan c.args.sig.now) c.in-Good.is c.requires.cell in
+    let long = rays_of_length fan c.args.sig.now ch.rays c.requires.legal good.1.chamber.rays_are in
+    let small : All (AreWithin (2 ^ 40)) ch.rays = subst (λ (x : FanChamber). All (AreWithin (2 ^ 40)) x.rays) c.c.view_is c.c.invariant.rays_small in
+    subst (All (IsShort fan.k)) (sym (c.deref.ensures.value ∙ ap (λ (x : FanChamber). x.rays) c.c.view_is)) (short_of fan.k ch.rays long small)
