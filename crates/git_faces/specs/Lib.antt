@@ -1,0 +1,4 @@
+pub mod FullFaces
+pub mod FaceVerdicts
+pub mod Dealing
+pub mod Laws
