@@ -1,0 +1,10 @@
+pub mod Openings
+pub mod TakeLooks
+pub mod Listings
+pub mod Exceeding
+pub mod Told
+pub mod Closing
+pub mod Stacks
+pub mod SeatViews
+pub mod Endings
+pub mod Spokes

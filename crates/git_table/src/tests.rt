@@ -1,0 +1,437 @@
+//! Callers of a frontier, one by one and at once.
+ghost use Rattle.std.specs.Prelude.{◌≡◌, ◌<◌, ◌+◌, ℕ, List, true, false, IfOk, length, IsTrue};
+ghost use Rattle.std.specs.List.{All, Contains};
+ghost use Rattle.git_machine.specs.Signatures.{Signature};
+ghost use Rattle.git_table.specs.Calls.{IsOf, Sees, room};
+ghost use Rattle.git_table.specs.Spokes.{spokes, HasHand, IsCaller};
+
+use crate::{Frontier, Hinted, Listed, Offer, Seat, Taken};
+use git_base::NoMemory;
+use git_machine::{Expansion, Sig, Successors};
+use std::alloc::Global;
+use std::test::Fail;
+use std::thread::{Threads, for_each_mut};
+
+/// Each number leads to the numbers from 1 to the last.
+#[derive(Drop)]
+struct Star {
+    last: u64,
+}
+
+impl Successors for Star {
+    ghost use Rattle.std.specs.Prelude.{◌≡◌, ℕ, length};
+    ghost use Rattle.std.proofs.Common.{sym, ◌∙◌, subst};
+    ghost use Rattle.std.specs.List.{All};
+    ghost use Rattle.git_machine.specs.Signatures.{Signature};
+    ghost use Rattle.git_table.specs.Spokes.{spokes, spokes_wide};
+
+    type Payload = ();
+
+    ghost legal = { λ g s. length s ≡ 1 };
+
+    ghost next = { λ g s ns. ns ≡ spokes g.last };
+
+    ghost payload = { λ g s n. Unit {0} };
+
+    ghost words = { λ _. 1 };
+
+    ghost has_width = { λ g s legal. legal };
+
+    ghost one_next = { λ g s a b legal p q. p ∙ sym q };
+
+    ghost next_legal = { λ g s a legal p. subst (All (λ (t : Signature). length t ≡ 1)) (sym p) (spokes_wide g.last) };
+
+    fn width(&self) -> usize {
+        1
+    }
+
+    fn expand(&self, alloc: Global, _sig: &Sig) -> Result<Expansion<()>, NoMemory> {
+        let mut next = Vec::new(alloc);
+        for i in 0..self.last {
+            next.push(Sig::of(alloc, &[i + 1])?)?;
+        }
+        Ok(Expansion { next, payload: () })
+    }
+}
+
+/// A seat, and whether it has a hand.
+#[derive(Drop)]
+struct Caller {
+    seat: Seat<Star>,
+    busy: bool,
+}
+
+/// What a call answered, or that it isn't to be made.
+#[derive(Clone, Copy, Debug, PartialEq, Eq)]
+enum Said {
+    Work(u32),
+    NotYet,
+    Quiet,
+    Halted,
+    Gone,
+    New(u32),
+    Seen(u32),
+    Full,
+    Done,
+    Refused,
+}
+
+/// Takes, and reads what it took.
+fn take(frontier: &Frontier<Star>, caller: &mut Caller) -> Said
+    requires { IsCaller frontier.now caller.old.seat caller.old.busy }
+    ensures { IsCaller frontier.now caller.new.seat caller.new.busy }
+{
+    if caller.busy {
+        return Said::Refused;
+    }
+    match frontier.take(&mut caller.seat) {
+        Taken::Work(id) => {
+            frontier.read(&mut caller.seat, id, &mut [0]);
+            caller.busy = true;
+            Said::Work(id)
+        }
+        Taken::NotYet => Said::NotYet,
+        Taken::Quiet => Said::Quiet,
+        Taken::Halted => Said::Halted,
+    }
+}
+
+/// Takes this id, and reads what it took.
+fn hint(frontier: &Frontier<Star>, caller: &mut Caller, id: u32) -> Said
+    requires { IsCaller frontier.now caller.old.seat caller.old.busy × (id < room frontier.now) }
+    ensures { IsCaller frontier.now caller.new.seat caller.new.busy }
+{
+    if caller.busy {
+        return Said::Refused;
+    }
+    match frontier.take_hint(&mut caller.seat, id) {
+        Hinted::Work(id) => {
+            frontier.read(&mut caller.seat, id, &mut [0]);
+            caller.busy = true;
+            Said::Work(id)
+        }
+        Hinted::Gone => Said::Gone,
+    }
+}
+
+/// Offers a number to which each leads.
+fn offer(
+    alloc: Global,
+    frontier: &Frontier<Star>,
+    star: &Star,
+    caller: &mut Caller,
+    number: u64,
+) -> Result<Said, NoMemory>
+    requires caller { IsCaller frontier.now caller.old.seat caller.old.busy }
+    requires star { frontier.now.graph ≡ star.now }
+    ensures { IsCaller frontier.now caller.new.seat caller.new.busy }
+{
+    if !caller.busy || number == 0 || number > star.last {
+        return Ok(Said::Refused);
+    }
+    let sig = Sig::of(alloc, &[number])?;
+    Ok(match frontier.offer(&mut caller.seat, &sig) {
+        Offer::New(id) => Said::New(id),
+        Offer::Seen(id) => Said::Seen(id),
+        Offer::Full => Said::Full,
+    })
+}
+
+/// Offers all to which the hand leads.
+fn offer_all(
+    alloc: Global,
+    frontier: &Frontier<Star>,
+    star: &Star,
+    seat: &mut Seat<Star>,
+) -> Result<bool, NoMemory>
+    requires caller { IsCaller frontier.now seat.old true }
+    requires star { frontier.now.graph ≡ star.now }
+    ensures caller { IsCaller frontier.now seat.new true }
+    ensures seen { IfOk result (λ all. IsTrue all → (x : Signature) → Contains (spokes star.now.last) x → (q : ℕ) × Sees seat.new q x) }
+{
+    for i in 0..star.last {
+        let sig = Sig::of(alloc, &[i + 1])?;
+        match frontier.offer(seat, &sig) {
+            Offer::Full => return Ok(false),
+            Offer::New(_id) => continue,
+            Offer::Seen(_id) => continue,
+        }
+    }
+    Ok(true)
+}
+
+/// Offers all to which the hand leads, and finishes it.
+fn finish(
+    alloc: Global,
+    frontier: &Frontier<Star>,
+    star: &Star,
+    caller: &mut Caller,
+) -> Result<Said, NoMemory>
+    requires caller { IsCaller frontier.now caller.old.seat caller.old.busy }
+    requires star { frontier.now.graph ≡ star.now }
+    ensures { IsCaller frontier.now caller.new.seat caller.new.busy }
+{
+    if !caller.busy {
+        return Ok(Said::Refused);
+    }
+    let all = offer_all(alloc, frontier, star, &mut caller.seat)?;
+    if !all {
+        return Ok(Said::Full);
+    }
+    frontier.finish(&mut caller.seat);
+    caller.busy = false;
+    Ok(Said::Done)
+}
+
+/// Takes and finishes until nothing is left, or there is a fault.
+fn work(alloc: Global, frontier: &Frontier<Star>, star: &Star, caller: &mut Caller)
+    requires caller { IsCaller frontier.now caller.old.seat caller.old.busy }
+    requires star { frontier.now.graph ≡ star.now }
+    ensures { IsCaller frontier.now caller.new.seat caller.new.busy }
+{
+    for _round in 0..1_000_000_000u64 {
+        match take(frontier, caller) {
+            Said::Work(_) => match finish(alloc, frontier, star, caller) {
+                Ok(Said::Done) => {}
+                _ => return,
+            },
+            Said::NotYet => {}
+            _ => return,
+        }
+    }
+}
+
+/// What a row of a table does.
+#[derive(Clone, Copy)]
+enum Step {
+    Take,
+    Offer(u64),
+    Finish,
+    Halt,
+}
+
+fn say(
+    alloc: Global,
+    frontier: &Frontier<Star>,
+    star: &Star,
+    caller: &mut Caller,
+    step: Step,
+) -> Result<Said, NoMemory>
+    requires caller { IsCaller frontier.now caller.old.seat caller.old.busy }
+    requires star { frontier.now.graph ≡ star.now }
+    ensures { IsCaller frontier.now caller.new.seat caller.new.busy }
+{
+    match step {
+        Step::Take => Ok(take(frontier, caller)),
+        Step::Offer(number) => offer(alloc, frontier, star, caller, number),
+        Step::Finish => finish(alloc, frontier, star, caller),
+        Step::Halt => {
+            frontier.halt(&mut caller.seat);
+            Ok(Said::Done)
+        }
+    }
+}
+
+/// Does the rows, each by the first or the second caller, and gives the number of those that are answered
+/// as they say, up to the first that isn't.
+fn run(
+    alloc: Global,
+    frontier: &Frontier<Star>,
+    star: &Star,
+    first: &mut Caller,
+    second: &mut Caller,
+    rows: &[(bool, Step, Said)],
+) -> Result<u32, NoMemory>
+    requires first { IsCaller frontier.now first.old.seat first.old.busy }
+    requires second { IsCaller frontier.now second.old.seat second.old.busy }
+    requires star { frontier.now.graph ≡ star.now }
+    ensures first { IsCaller frontier.now first.new.seat first.new.busy }
+    ensures second { IsCaller frontier.now second.new.seat second.new.busy }
+{
+    let mut right = 0u32;
+    for &(by_first, step, said) in rows {
+        let got = if by_first {
+            say(alloc, frontier, star, first, step)?
+        } else {
+            say(alloc, frontier, star, second, step)?
+        };
+        if got != said {
+            return Ok(right);
+        }
+        right = right.wrapping_add(1);
+    }
+    Ok(right)
+}
+
+/// The listing, if a take says that nothing is left.
+fn end(alloc: Global, frontier: Frontier<Star>, caller: Caller) -> Result<Option<Listed>, NoMemory>
+    requires { IsCaller frontier caller.seat caller.busy }
+{
+    let Caller { mut seat, busy } = caller;
+    if busy {
+        frontier.discard();
+        return Ok(None);
+    }
+    match frontier.take(&mut seat) {
+        Taken::Quiet => Ok(Some(frontier.close(alloc, seat)?)),
+        Taken::Work(_) | Taken::NotYet | Taken::Halted => {
+            frontier.discard();
+            Ok(None)
+        }
+    }
+}
+
+/// All callers work, each on a thread.
+fn work_all<R: Threads + Sync>(
+    rt: &R,
+    alloc: Global,
+    frontier: &Frontier<Star>,
+    star: &Star,
+    callers: &mut [Caller],
+)
+    requires callers { All (λ m. IsCaller frontier.now m.seat m.busy) callers.old }
+    requires star { frontier.now.graph ≡ star.now }
+    ensures { All (λ m. IsCaller frontier.now m.seat m.busy) callers.new }
+{
+    let each = |_i: usize, m: &mut Caller|
+        requires { (frontier.now.graph ≡ star.now) × IsCaller frontier.now m.now.seat m.now.busy }
+        ensures { IsCaller frontier.entry.now m.exit.now.seat m.exit.now.busy }
+    { work(alloc, frontier, star, m) };
+    for_each_mut(rt, callers, 8, &each);
+}
+
+#[test]
+fn two_callers_share_what_they_find(rt: HostRuntime) -> Result<(), Fail> {
+    // Which caller, what it does, what is answered: 0 leads to 1 and 2, and so do both.
+    let rows = [
+        (true, Step::Take, Said::Work(0)),
+        (false, Step::Take, Said::NotYet),
+        (true, Step::Offer(1), Said::New(1)),
+        (false, Step::Take, Said::Work(1)),
+        (false, Step::Offer(1), Said::Seen(1)),
+        (false, Step::Offer(2), Said::New(2)),
+        (true, Step::Offer(2), Said::Seen(2)),
+        (true, Step::Offer(3), Said::Refused),
+        (true, Step::Finish, Said::Done),
+        (true, Step::Take, Said::Work(2)),
+        (false, Step::Finish, Said::Done),
+        (false, Step::Take, Said::NotYet),
+        (true, Step::Finish, Said::Done),
+        (false, Step::Take, Said::Quiet),
+    ];
+    let star = Star { last: 2 };
+    let root = Sig::of(rt.alloc(), &[0])?;
+    let (frontier, seat) = Frontier::new(rt.alloc(), &star, 4, 2, &root)?;
+    let (one, two) = frontier.split(seat);
+    let mut first = Caller {
+        seat: one,
+        busy: false,
+    };
+    let mut second = Caller {
+        seat: two,
+        busy: false,
+    };
+    let right = run(rt.alloc(), &frontier, &star, &mut first, &mut second, &rows);
+    let listed = end(rt.alloc(), frontier, first)?;
+    assert_eq!(rt; right?, 14);
+    assert_eq!(rt; listed.map(|l| l.sigs.len()), Some(3));
+    Ok(())
+}
+
+#[test]
+fn a_full_table_still_knows_its_signatures(rt: HostRuntime) -> Result<(), Fail> {
+    let rows = [
+        (true, Step::Take, Said::Work(0)),
+        (true, Step::Offer(1), Said::New(1)),
+        (true, Step::Offer(2), Said::New(2)),
+        (true, Step::Offer(3), Said::Full),
+        (true, Step::Offer(1), Said::Seen(1)),
+        (true, Step::Finish, Said::Full),
+        (false, Step::Take, Said::Work(2)),
+        (false, Step::Offer(3), Said::Full),
+        (false, Step::Halt, Said::Done),
+        (false, Step::Offer(2), Said::Seen(2)),
+        (true, Step::Take, Said::Refused),
+    ];
+    let star = Star { last: 3 };
+    let root = Sig::of(rt.alloc(), &[0])?;
+    let (frontier, seat) = Frontier::new(rt.alloc(), &star, 1, 2, &root)?;
+    let (one, two) = frontier.split(seat);
+    let mut first = Caller {
+        seat: one,
+        busy: false,
+    };
+    let mut second = Caller {
+        seat: two,
+        busy: false,
+    };
+    let right = run(rt.alloc(), &frontier, &star, &mut first, &mut second, &rows);
+    frontier.discard();
+    assert_eq!(rt; right?, 11);
+    Ok(())
+}
+
+#[test]
+fn callers_halt(rt: HostRuntime) -> Result<(), Fail> {
+    let rows = [
+        (true, Step::Take, Said::Work(0)),
+        (true, Step::Offer(1), Said::New(1)),
+        (true, Step::Halt, Said::Done),
+        (false, Step::Take, Said::Halted),
+        (true, Step::Finish, Said::Done),
+        (true, Step::Take, Said::Halted),
+    ];
+    let star = Star { last: 1 };
+    let root = Sig::of(rt.alloc(), &[0])?;
+    let (frontier, seat) = Frontier::new(rt.alloc(), &star, 4, 2, &root)?;
+    let (one, two) = frontier.split(seat);
+    let mut first = Caller {
+        seat: one,
+        busy: false,
+    };
+    let mut second = Caller {
+        seat: two,
+        busy: false,
+    };
+    let right = run(rt.alloc(), &frontier, &star, &mut first, &mut second, &rows);
+    frontier.discard();
+    assert_eq!(rt; right?, 6);
+    Ok(())
+}
+
+#[test]
+fn threads_close_one_graph(rt: HostRuntime) -> Result<(), Fail> {
+    let star = Star { last: 100 };
+    let root = Sig::of(rt.alloc(), &[0])?;
+    let (frontier, own) = Frontier::new(rt.alloc(), &star, 200, 5, &root)?;
+    let (own, one) = frontier.split(own);
+    let (own, two) = frontier.split(own);
+    let (own, three) = frontier.split(own);
+    let (own, four) = frontier.split(own);
+    let own = Caller {
+        seat: own,
+        busy: false,
+    };
+    let mut callers = [
+        Caller {
+            seat: one,
+            busy: false,
+        },
+        Caller {
+            seat: two,
+            busy: false,
+        },
+        Caller {
+            seat: three,
+            busy: false,
+        },
+        Caller {
+            seat: four,
+            busy: false,
+        },
+    ];
+    work_all(&rt, rt.alloc(), &frontier, &star, &mut callers);
+    let listed = end(rt.alloc(), frontier, own)?;
+    assert_eq!(rt; listed.map(|l| l.sigs.len()), Some(101));
+    Ok(())
+}
