@@ -1,23 +1,21 @@
 -- What is told of a signature, from its walls and their double description.
-use Rattle.std.proofs.Common.{◌≡◌, ℕ, ◌+◌, ◌/◌, ◌^◌, ◌<◌, ◌≤◌, List, [], ◌∷◌, length, refl, sym, ◌∙◌, ap, subst, arith}
-use Rattle.std.specs.Prelude.{All, Contains}
+use Rattle.std.proofs.Common.{◌≡◌, ℕ, ◌≤◌, List, [], ◌∷◌, length, sym, subst, arith}
+use Rattle.std.specs.Prelude.{All}
 use Rattle.git_defs.specs.Vectors.{Vector, vector_sum}
 use Rattle.git_defs.specs.Cones.{AreFacets, AreRays, Cut, Dual}
 use Rattle.git_lemmas.proofs.Members.{contains_member, member_contains}
 use Rattle.git_geometry.proofs.Rays.{dual_along, rays_along}
 use Rattle.git_geometry.proofs.Sorted.{ascending_of, sorted_once}
-use Rattle.git_ints.specs.Padded.{AreWithin}
 use Rattle.git_machine.specs.Signatures.{Signature}
 use Rattle.git_stages.specs.Short.{IsShort}
 use Rattle.git_stages.specs.Wide.{IsWideAt, NeverWide}
-use Rattle.git_stages.specs.declared.wide.WideAt.{WideAt}
 use Rattle.git_stages.proofs.Uniqueness.{wide_not_never}
 use Rattle.git_canon.specs.Canons.{Described, IsCanonOf}
 use Rattle.git_orbit.specs.Orbits.{Fan, IsFan}
 use Rattle.git_orbit.specs.Signatures.{InChamber, IsLegal, IsSignature}
 use Rattle.git_orbit.proofs.Fans.{fan_few}
-use Rattle.git_chamber.specs.Views.{FanChamber, IsSized}
-use Rattle.git_chamber.specs.Chambers.{AreWalls, IsCell, IsChamber, IsCrossed, IsLeastDifference, IsNarrow, IsWideSignature}
+use Rattle.git_chamber.specs.Views.{IsSized}
+use Rattle.git_chamber.specs.Chambers.{AreWalls, IsCell, IsChamber, IsLeastDifference, IsNarrow}
 use Rattle.git_chamber.specs.declared.cell.Cell.TheVariants.{Crossed, Good}
 use Rattle.git_chamber.proofs.Facets.{walls_cut, walls_have, walls_rank}
 use Rattle.git_chamber.proofs.Few.{few_rays}

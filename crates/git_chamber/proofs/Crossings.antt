@@ -1,16 +1,15 @@
 -- Crossings of walls.
-use Rattle.std.proofs.Common.{◌≡◌, ◌≢◌, ◌⊎◌, inl, inr, ℕ, suc, ◌+◌, ◌^◌, ◌<◌, ◌≤◌, List, [], ◌∷◌, ◌++◌, length, map, take, drop, get_or, append_assoc, refl, sym, ◌∙◌, ap, subst, arith}
-use Rattle.std.proofs.Math.IntN.{ℤ, pos, negsuc}
+use Rattle.std.proofs.Common.{◌≡◌, ◌≢◌, inl, inr, ℕ, suc, ◌+◌, ◌^◌, ◌<◌, List, [], ◌∷◌, ◌++◌, length, map, take, drop, get_or, append_assoc, refl, sym, ◌∙◌, ap, subst, arith}
+use Rattle.std.proofs.Math.IntN.{pos, negsuc}
 use Rattle.std.proofs.Math.Seq.{drop-cons}
 use Rattle.std.proofs.lemmas.Int.{ints}
-use Rattle.std.proofs.lemmas.List.{drop_all, take-append-drop, take_more}
-use Rattle.std.specs.Prelude.{All, Contains, ◌<ℤ◌}
+use Rattle.std.proofs.lemmas.List.{take-append-drop}
+use Rattle.std.specs.Prelude.{All, ◌<ℤ◌}
 use Rattle.git_defs.specs.Vectors.{Vector, AllOfLength, dot}
-use Rattle.git_defs.specs.Cones.{Cut}
 use Rattle.git_defs.proofs.Lengths.{all_of_length}
 use Rattle.git_lemmas.specs.Members.{Member}
 use Rattle.git_lemmas.proofs.Members.{all_member, member_all}
-use Rattle.git_geometry.specs.Germs.{HasNoNegative, Holds, sign_at}
+use Rattle.git_geometry.specs.Germs.{HasNoNegative, sign_at}
 use Rattle.git_geometry.proofs.Lists.{member_right}
 use Rattle.git_geometry.proofs.Polynomials.{sign_cases}
 use Rattle.git_geometry.proofs.Signs.{holds_of_signs, signs_of_holds}
@@ -20,7 +19,6 @@ use Rattle.git_orbit.specs.Orbits.{Fan, IsFan}
 use Rattle.git_orbit.specs.Signatures.{facets_at, IsSignature}
 use Rattle.git_stages.specs.Short.{IsShort}
 use Rattle.git_chamber.specs.Chambers.{AreCrossings, IsBehind, IsFirstNegative, crossing}
-use Rattle.git_chamber.specs.declared.cell.Side.{Side}
 use Rattle.git_chamber.specs.declared.cell.Side.TheVariants.{Boundary, Inner}
 use Rattle.git_chamber.proofs.Facets.{cone_facets}
 

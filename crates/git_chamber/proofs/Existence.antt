@@ -1,15 +1,14 @@
 -- Something is told of each legal signature, and it leads on.
 use Rattle.std.proofs.Common.{◌≡◌, ◌≢◌, ◌⊎◌, ◌∙◌, ◌++◌, ◌∷◌, [], ◌+◌, ◌*◌, ◌<◌, ◌≤◌, Bool, List, ap, arith, false, inl, inr, length, map, refl, subst, suc, sym, true, zero, ℕ}
-use Rattle.std.proofs.Math.IntN.{ℤ, negsuc, pos}
+use Rattle.std.proofs.Math.IntN.{negsuc}
 use Rattle.std.proofs.lemmas.Bool.{cases_lt}
 use Rattle.std.proofs.lemmas.Int.{ints}
 use Rattle.std.proofs.lemmas.List.Elements.{All-cons}
-use Rattle.std.specs.Prelude.{◌↔◌, All, Contains}
-use Rattle.git_defs.specs.Vectors.{AllOfLength, HasRank, Vector, dot, vector_sum}
+use Rattle.std.specs.Prelude.{◌↔◌}
+use Rattle.git_defs.specs.Vectors.{AllOfLength, Vector, dot, vector_sum}
 use Rattle.git_defs.specs.Cones.{AreFacets, Cut, Dual, InCone}
 use Rattle.git_defs.proofs.Lengths.{OfLength, all_of_length, first_of_length, more_of_length, none_of_length, of_length_all, rest_of_length}
-use Rattle.git_lemmas.specs.Members.{Member}
-use Rattle.git_lemmas.proofs.Members.{contains_member, member_all, member_contains}
+use Rattle.git_lemmas.proofs.Members.{contains_member, member_contains}
 use Rattle.git_geometry.specs.Germs.{HasNoNegative, sign_at}
 use Rattle.git_geometry.proofs.Inside.{germ_of_length, length-vector_sum}
 use Rattle.git_geometry.proofs.Minkowski.{generators_of_length, generators_same, minkowski}
@@ -18,16 +17,13 @@ use Rattle.git_geometry.proofs.Rays.{dual_along, dual_cut, rays_along, same_back
 use Rattle.git_machine.specs.Signatures.{Has, Signature, has_number}
 use Rattle.git_machine.proofs.Words.{equal_sets, has_one, within}
 use Rattle.git_stages.specs.Prepared.{IsSortedSet}
-use Rattle.git_stages.specs.Wide.{IsWideAt, NeverWide}
-use Rattle.git_stages.specs.declared.wide.WideAt.{WideAt}
-use Rattle.git_stages.specs.declared.wide.WideWhat.{WideWhat}
+use Rattle.git_stages.specs.Wide.{NeverWide}
 use Rattle.git_stages.proofs.Decided.{wide_decided}
 use Rattle.git_stages.proofs.Exist.{rays_exist}
 use Rattle.git_stages.proofs.Listed.{listed, pairs_of}
 use Rattle.git_orbit.specs.Orbits.{Fan, IsFan}
-use Rattle.git_orbit.specs.Signatures.{InChamber, IsLegal, IsSignature, facets_at}
+use Rattle.git_orbit.specs.Signatures.{IsLegal, IsSignature, facets_at}
 use Rattle.git_orbit.proofs.Existence.{a_signature}
-use Rattle.git_chamber.specs.Views.{FanChamber}
 use Rattle.git_chamber.specs.Chambers.{AreCrossings, AreWalls, IsBehind, IsCell, IsChamber, IsFirstNegative, IsLeastDifference, IsNarrow, IsNext, LeadsOn, crossing}
 use Rattle.git_chamber.specs.Gathering.{Gathers}
 use Rattle.git_chamber.specs.Nexts.{crossing_ends, facets_have, rays_have}

@@ -1,5 +1,5 @@
 -- The facets of a fan's cones, and the walls of a signature.
-use Rattle.std.proofs.Common.{◌≡◌, ◌≢◌, ◌↔◌, ℕ, ◌+◌, ◌*◌, ◌^◌, ◌<◌, ◌≤◌, List, [], ◌∷◌, ◌++◌, length, length-append, refl, sym, ◌∙◌, ap, subst, arith, inl, inr}
+use Rattle.std.proofs.Common.{◌≡◌, ◌≢◌, ℕ, ◌+◌, ◌^◌, ◌<◌, ◌≤◌, List, [], ◌++◌, length, length-append, sym, ◌∙◌, ap, subst, arith, inl, inr}
 use Rattle.std.specs.Prelude.{All, Contains, ◌<ℤ◌}
 use Rattle.std.proofs.Math.IntN.{pos}
 use Rattle.std.proofs.lemmas.Bool.{cases_lt}
@@ -21,7 +21,7 @@ use Rattle.git_stages.specs.Short.{IsShort}
 use Rattle.git_stages.specs.Prepared.{IsSortedSet}
 use Rattle.git_canon.specs.Canons.{HasInsideOf}
 use Rattle.git_orbit.specs.Orbits.{Fan, IsFan}
-use Rattle.git_orbit.specs.Signatures.{facets_at, cone_in, IsSignature, IsLegal, InChamber}
+use Rattle.git_orbit.specs.Signatures.{facets_at, IsLegal, InChamber}
 use Rattle.git_orbit.proofs.Fans.{fan_few, read_cone}
 use Rattle.git_orbit.proofs.Signatures.{chamber_holds_germ}
 use Rattle.git_chamber.specs.Chambers.{AreWalls}

@@ -1,9 +1,9 @@
 -- A list of inequalities that is never wide cuts out a cone with at most 65,536 extreme vectors.
-use Rattle.std.proofs.Common.{◌≡◌, ◌⊎◌, ◌≢◌, ℕ, zero, suc, ◌+◌, ◌*◌, ◌<◌, ◌≤◌, List, [], ◌∷◌, ◌++◌, length, take, drop, get_or, append-nil, refl, sym, ◌∙◌, ap, subst, arith, inl, inr}
+use Rattle.std.proofs.Common.{◌≡◌, ℕ, zero, suc, ◌+◌, ◌*◌, ◌<◌, ◌≤◌, List, [], ◌∷◌, ◌++◌, length, take, get_or, refl, sym, ◌∙◌, ap, subst, arith, inl, inr}
 use Rattle.std.proofs.lemmas.List.{take_all}
 use Rattle.std.proofs.lemmas.List.Elements.{All-nil}
 use Rattle.std.proofs.Math.IntN.{ℤ, pos, pos-*ℤ-pos}
-use Rattle.std.specs.Prelude.{All, AllPairs, Contains}
+use Rattle.std.specs.Prelude.{AllPairs, Contains}
 use Rattle.git_defs.specs.Vectors.{Vector, zero_vector, scale, AreIndependent, HasRank, IsPrimitive, Precedes}
 use Rattle.git_defs.specs.Cones.{Cut, AreRays, IsEdge, OnRay}
 use Rattle.git_defs.proofs.Lengths.{OfLength, all_of_length}
@@ -12,7 +12,7 @@ use Rattle.git_defs.proofs.Linear.{length-scale}
 use Rattle.git_defs.proofs.Sums.{scale-scale}
 use Rattle.git_lemmas.specs.Members.{Member}
 use Rattle.git_lemmas.proofs.Members.{contains_member, member_contains, all_member, member_all}
-use Rattle.git_geometry.specs.Elimination.{Eliminated, InSpan, Run, signed}
+use Rattle.git_geometry.specs.Elimination.{Eliminated, Run, signed}
 use Rattle.git_geometry.specs.Generators.{RayOf}
 use Rattle.git_geometry.proofs.Cuts.{cut_same, cut_closed}
 use Rattle.git_geometry.proofs.Elimination.{length-diagonal, diagonal_nonzero, end_generates}

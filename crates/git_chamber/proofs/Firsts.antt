@@ -1,6 +1,6 @@
 -- The first signature is legal.
-use Rattle.std.proofs.Common.{[], ◌∷◌, List, refl}
-use Rattle.git_defs.specs.Vectors.{Vector, vector_sum}
+use Rattle.std.proofs.Common.{[], ◌∷◌, refl}
+use Rattle.git_defs.specs.Vectors.{vector_sum}
 use Rattle.git_defs.proofs.Lengths.{all_of_length, more_of_length, none_of_length, of_length_all}
 use Rattle.git_geometry.proofs.Inside.{length-vector_sum}
 use Rattle.git_machine.specs.Signatures.{Signature}

@@ -1,5 +1,5 @@
 -- What is reached from a legal signature is legal.
-use Rattle.std.proofs.Common.{[], ◌∷◌, List, length, subst, sym}
+use Rattle.std.proofs.Common.{[], ◌∷◌, List, subst, sym}
 use Rattle.std.proofs.lemmas.List.Elements.{All-contains}
 use Rattle.git_defs.specs.Vectors.{AllOfLength, Vector}
 use Rattle.git_defs.specs.Cones.{AreRays, Dual}

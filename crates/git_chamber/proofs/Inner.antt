@@ -1,20 +1,19 @@
 -- Chambers are described by their rays and facets; weights are inside; which sets are legal.
-use Rattle.std.proofs.Common.{◌≡◌, ◌≢◌, ◌↔◌, ◌∙◌, ◌∷◌, [], ◌<◌, ◌≤◌, List, ap, arith, length, map, refl, subst, suc, sym, zero, ℕ}
+use Rattle.std.proofs.Common.{◌≡◌, ◌≢◌, ◌↔◌, ◌∙◌, ◌∷◌, [], ◌<◌, List, ap, arith, length, map, refl, subst, suc, sym, zero, ℕ}
 use Rattle.std.proofs.Math.IntN.{ℤ, negsuc, pos}
 use Rattle.std.proofs.lemmas.Int.{ints}
 use Rattle.std.specs.Prelude.{◌<ℤ◌, ◌≤ℤ◌, All, Contains}
-use Rattle.git_defs.specs.Vectors.{AllOfLength, HasRank, Vector, dot, units, vector_sum}
+use Rattle.git_defs.specs.Vectors.{HasRank, Vector, dot, units, vector_sum}
 use Rattle.git_defs.specs.Cones.{AreFacets, Cut, Dual, InCone, SameSet}
-use Rattle.git_defs.proofs.Lengths.{OfLength, all_of_length, more_of_length, none_of_length, of_length_all}
-use Rattle.git_lemmas.specs.Members.{Member}
+use Rattle.git_defs.proofs.Lengths.{OfLength, more_of_length, none_of_length, of_length_all}
 use Rattle.git_lemmas.proofs.Members.{all_member, contains_member, member_all, member_contains}
-use Rattle.git_geometry.specs.Generators.{Generates, IsCutOut}
+use Rattle.git_geometry.specs.Generators.{Generates}
 use Rattle.git_geometry.specs.Germs.{EndsWithUnits, first_sign, sign_at}
 use Rattle.git_geometry.proofs.Cuts.{cut_of, side_at}
 use Rattle.git_geometry.proofs.Facets.{facets_same, rays_generate}
 use Rattle.git_geometry.proofs.Independence.{rank_pointed}
 use Rattle.git_geometry.proofs.Inside.{germ_of_length, inside_of_sum, inside_rank, length-vector_sum}
-use Rattle.git_geometry.proofs.Minkowski.{generators_of_length, generators_same, minkowski}
+use Rattle.git_geometry.proofs.Minkowski.{generators_same, minkowski}
 use Rattle.git_geometry.proofs.Rays.{dual_along, rays_along, same_back, same_through}
 use Rattle.git_geometry.proofs.Signs.{holds_of_signs, signs_of_holds}
 use Rattle.git_machine.specs.Signatures.{Has, Signature}

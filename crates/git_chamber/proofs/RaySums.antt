@@ -1,13 +1,13 @@
 -- One more vector of a sum, and the sizes of sums.
-use Rattle.std.proofs.Common.{◌≡◌, ℕ, zero, suc, ◌+◌, ◌-◌, ◌*◌, ◌^◌, ◌<◌, ◌≤◌, Bool, true, false, List, [], ◌∷◌, length, drop, get_or, refl, sym, ◌∙◌, ap, subst, arith}
-use Rattle.std.proofs.Math.IntN.{ℤ, pos}
+use Rattle.std.proofs.Common.{◌≡◌, ℕ, zero, suc, ◌+◌, ◌-◌, ◌*◌, ◌^◌, ◌<◌, ◌≤◌, Bool, true, false, List, [], ◌∷◌, length, drop, get_or, refl, sym, ◌∙◌, ap, arith}
+use Rattle.std.proofs.Math.IntN.{pos}
 use Rattle.std.proofs.Math.Seq.{drop-cons}
 use Rattle.std.proofs.lemmas.Bool.Decides.{Decides-int_eq}
 use Rattle.std.proofs.lemmas.Int.{ints}
 use Rattle.std.specs.Ordering.{int_eq}
 use Rattle.std.specs.Prelude.{if◌then◌else◌}
 use Rattle.git_defs.specs.Vectors.{Vector, zero_vector, plus, dot, vector_sum}
-use Rattle.git_defs.proofs.Linear.{length-plus, length-zero}
+use Rattle.git_defs.proofs.Linear.{length-plus}
 use Rattle.git_ints.specs.Padded.{AreWithin}
 use Rattle.git_lemmas.proofs.Integers.{abs_add}
 use Rattle.git_stages.specs.Short.{IsShort}

@@ -1,12 +1,12 @@
 -- Only one thing is told of a signature, and only one lies behind a wall.
-use Rattle.std.proofs.Common.{◌≡◌, ◌≢◌, ◌∙◌, ◌++◌, ◌∷◌, [], ◌<◌, List, ap, arith, inl, inr, length, refl, subst, suc, sym, ℕ}
+use Rattle.std.proofs.Common.{◌≡◌, ◌∙◌, ◌++◌, ◌∷◌, [], ◌<◌, List, ap, arith, inl, inr, subst, suc, sym, ℕ}
 use Rattle.std.proofs.Math.IntN.{negsuc}
 use Rattle.std.proofs.lemmas.Bool.{cases_lt}
 use Rattle.git_defs.specs.Vectors.{Vector}
 use Rattle.git_defs.specs.Cones.{Dual}
 use Rattle.git_geometry.specs.Germs.{HasNoNegative, sign_at}
 use Rattle.git_geometry.proofs.Sorted.{rays_once}
-use Rattle.git_machine.specs.Signatures.{Has, Signature}
+use Rattle.git_machine.specs.Signatures.{Signature}
 use Rattle.git_stages.specs.Wide.{IsWideAt}
 use Rattle.git_stages.specs.declared.wide.WideAt.{WideAt}
 use Rattle.git_stages.proofs.Uniqueness.{wide_once}

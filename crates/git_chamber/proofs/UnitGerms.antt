@@ -1,6 +1,6 @@
 -- Vectors with the unit vectors after them.
-use Rattle.std.proofs.Common.{◌≡◌, ℕ, zero, suc, ◌+◌, ◌^◌, ◌<◌, ◌≤◌, List, [], ◌∷◌, ◌++◌, ap, append_assoc, length, length-append, take, set, get_or, refl, sym, ◌∙◌, subst, arith, Some}
-use Rattle.std.proofs.lemmas.List.{take_more_set, take_more, take_all}
+use Rattle.std.proofs.Common.{◌≡◌, ℕ, zero, suc, ◌+◌, ◌^◌, ◌<◌, ◌≤◌, List, [], ◌∷◌, ◌++◌, ap, append_assoc, length, take, set, get_or, refl, sym, ◌∙◌, subst, arith, Some}
+use Rattle.std.proofs.lemmas.List.{take_more_set, take_more}
 use Rattle.std.proofs.lemmas.List.Elements.{All-append}
 use Rattle.std.specs.List.{All}
 use Rattle.std.proofs.Math.IntN.{negsuc}

@@ -1,5 +1,5 @@
 -- What holds of chambers, crossings and the graph, as the laws of this crate say it.
-use Rattle.std.specs.Prelude.{◌≡◌, ◌≢◌, ◌↔◌, ℕ, ◌<◌, List, [], ◌∷◌, pos, ◌<ℤ◌, length, All, Contains}
+use Rattle.std.specs.Prelude.{◌≡◌, ◌↔◌, ℕ, ◌<◌, List, [], ◌∷◌, pos, ◌<ℤ◌, length, All, Contains}
 use Rattle.git_defs.specs.Vectors.{Vector, AllOfLength, HasRank, dot, vector_sum}
 use Rattle.git_defs.specs.Cones.{Cut, InCone, SameSet}
 use Rattle.git_machine.specs.Signatures.{Signature, Has}

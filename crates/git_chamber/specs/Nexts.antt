@@ -4,9 +4,8 @@ use Rattle.std.specs.List.{All}
 use Rattle.std.specs.Ordering.{int_eq}
 use Rattle.std.proofs.Common.{◌∙◌, ap, arith, inl, inr, refl, subst, sym}
 use Rattle.std.proofs.lemmas.List.Elements.{All-cons, All-nil}
-use Rattle.git_lemmas.specs.Members.{Member}
 use Rattle.git_lemmas.proofs.Members.{member_contains}
-use Rattle.git_defs.specs.Vectors.{AllOfLength, Vector, dot, scale, vector_sum}
+use Rattle.git_defs.specs.Vectors.{Vector, dot, scale, vector_sum}
 use Rattle.git_defs.specs.Cones.{AreRays, Dual}
 use Rattle.git_defs.proofs.Linear.{length-scale}
 use Rattle.git_defs.proofs.Lengths.{OfLength, first_of_length, more_of_length, none_of_length, of_length_all, rest_of_length}

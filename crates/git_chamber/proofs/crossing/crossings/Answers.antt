@@ -3,7 +3,7 @@ use Rattle.std.proofs.lemmas.List.{drop_all}
 use Rattle.git_defs.specs.Vectors.{Vector}
 use Rattle.git_machine.specs.Signatures.{Signature}
 use Rattle.git_chamber.specs.Chambers.{AreCrossings, IsBehind}
-use Rattle.git_chamber.specs.declared.cell.Side.TheVariants.{Boundary, Inner}
+use Rattle.git_chamber.specs.declared.cell.Side.TheVariants.{Inner}
 use Rattle.git_chamber.proofs.Crossings.{no_crossing, one_more_crossing}
 use Rattle.git_chamber.proofs.crossing.crossings.Goals as goal
 use Rattle.git_chamber.proofs.crossing.crossings.Goals.{in-Inner+in_ok-add, in_default}

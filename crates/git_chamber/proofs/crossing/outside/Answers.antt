@@ -1,6 +1,5 @@
-use Rattle.std.proofs.Common.{◌<◌, ℕ, All, List, ap, length, subst, sym, arith}
+use Rattle.std.proofs.Common.{◌<◌, ℕ, All, ap, length, subst, sym, arith}
 use Rattle.std.proofs.lemmas.Grind.{common_steps}
-use Rattle.git_defs.specs.Vectors.{Vector}
 use Rattle.git_orbit.specs.Orbits.{Fan}
 use Rattle.git_stages.specs.Short.{IsShort}
 use Rattle.git_chamber.proofs.Crossings.{first_facets_short}

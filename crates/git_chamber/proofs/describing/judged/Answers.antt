@@ -1,7 +1,7 @@
-use Rattle.std.proofs.Common.{rules, ◌≡◌, ◌≤◌, ◌∙◌, [], ◌∷◌, List, ap, length, subst, sym, refl}
+use Rattle.std.proofs.Common.{rules, ◌≡◌, ◌≤◌, ◌∙◌, List, ap, length, subst, sym, refl}
 use Rattle.git_defs.specs.Vectors.{Vector, vector_sum}
 use Rattle.git_canon.specs.Canons.{Described}
-use Rattle.git_chamber.specs.Views.{FanChamber, IsSized}
+use Rattle.git_chamber.specs.Views.{IsSized}
 use Rattle.git_chamber.specs.Chambers.{IsCell}
 use Rattle.git_chamber.specs.declared.cell.Cell.TheVariants.{Good}
 use Rattle.git_chamber.proofs.Facets.{fan_seen}

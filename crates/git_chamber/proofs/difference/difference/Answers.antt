@@ -1,4 +1,4 @@
-use Rattle.std.proofs.Common.{◌≡◌, ◌<◌, ◌*◌, length, ℕ, arith}
+use Rattle.std.proofs.Common.{◌<◌, ◌*◌, length, ℕ, arith}
 use Rattle.git_machine.specs.Signatures.{Signature, Has}
 use Rattle.git_machine.proofs.Words.{equal_sets, within, has_one}
 use Rattle.git_chamber.proofs.difference.difference.Goals as goal

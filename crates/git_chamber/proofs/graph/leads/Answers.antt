@@ -1,5 +1,4 @@
-use Rattle.std.proofs.Common.{◌≡◌, ◌^◌, ◌∙◌, List, All, ap, subst, sym}
-use Rattle.git_defs.specs.Vectors.{Vector}
+use Rattle.std.proofs.Common.{◌^◌, ◌∙◌, All, ap, subst, sym}
 use Rattle.git_ints.specs.Padded.{AreWithin}
 use Rattle.git_stages.specs.Short.{IsShort}
 use Rattle.git_chamber.specs.Views.{FanChamber}

@@ -1,4 +1,4 @@
-use Rattle.std.proofs.Common.{◌≡◌, ◌-◌, ◌+◌, ◌<◌, ◌∙◌, ◌∷◌, drop, length, get_or, List, sym, subst, arith}
+use Rattle.std.proofs.Common.{◌≡◌, ◌-◌, ◌+◌, ◌<◌, ◌∙◌, ◌∷◌, drop, length, List, sym, subst, arith}
 use Rattle.git_defs.specs.Vectors.{Vector}
 use Rattle.git_stages.specs.Short.{IsShort}
 use Rattle.git_chamber.proofs.RaySums.{IsSum, one_before, sum_more}

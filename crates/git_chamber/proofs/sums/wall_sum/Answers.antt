@@ -1,6 +1,5 @@
 use Rattle.std.proofs.Common.{◌≡◌, ◌-◌, ◌+◌, ◌<◌, ◌∙◌, ◌∷◌, ap, drop, false, length, List, sym, subst, true, arith}
-use Rattle.std.proofs.Math.IntN.{pos}
-use Rattle.git_defs.specs.Vectors.{Vector, dot}
+use Rattle.git_defs.specs.Vectors.{Vector}
 use Rattle.git_stages.specs.Short.{IsShort}
 use Rattle.git_chamber.specs.Chambers.{on_wall}
 use Rattle.git_chamber.proofs.RaySums.{IsSum, one_before, on_wall_yes, on_wall_no, sum_more, sum_skips}

@@ -1,4 +1,4 @@
-use Rattle.std.proofs.Common.{◌≡◌, ◌<◌, ◌∙◌, [], List, ap, get_or, length, subst}
+use Rattle.std.proofs.Common.{◌<◌, ◌∙◌, [], List, ap, get_or, length, subst}
 use Rattle.std.proofs.lemmas.List.{get_or_default}
 use Rattle.std.specs.Prelude.{Contains}
 use Rattle.git_defs.specs.Vectors.{Vector}

@@ -1,5 +1,4 @@
-use Rattle.std.proofs.Common.{rules, ◌≡◌, ◌<◌, ◌∙◌, ◌+◌, ◌++◌, ap, length, subst, sym, true, false, List, arith}
-use Rattle.git_defs.specs.Vectors.{Vector}
+use Rattle.std.proofs.Common.{◌≡◌, ◌∙◌, ◌+◌, ap, length, subst, sym, true, false, arith}
 use Rattle.git_orbit.specs.Orbits.{Fan}
 use Rattle.git_orbit.proofs.Fans.{fan_few}
 use Rattle.git_chamber.specs.Gathering.{Gathers}
