@@ -1,0 +1,4 @@
+pub mod CaseLaws
+pub mod ReadLaws
+pub mod FaceLaws
+pub mod Replies

@@ -1,0 +1,23 @@
+-- The answer of `faces` by cases.
+use Rattle.std.specs.Prelude.{◌≡◌, ℕ, ◌≤◌, List, []}
+use Rattle.git_base.specs.declared.status.Status.{Status}
+use Rattle.git_base.specs.declared.status.Status.TheVariants.{Done}
+use Rattle.git_input.specs.Inputs.{InputValue}
+use Rattle.git_answers.specs.Cases.{Case, ◌otherwise◌, IsFirst, says, certificates}
+use Rattle.git_answers.specs.Verdicts.{StopsAt, StopsWith, stop_text}
+use Rattle.git_answers.specs.Reads.{reads}
+
+-- the run of a full face stops: the greatest such face is named
+abbrev pub face_stops : InputValue → ℕ → Case
+face_stops v limit o = (mask : ℕ) × IsFirst (λ m n. n ≤ m) (StopsAt v limit) mask × ((s : Status) × StopsWith v limit mask s × (o ≡ says s (stop_text s mask)))
+
+-- the certificates of all full faces
+abbrev pub certifies : Case
+certifies o = o ≡ record { status = Done; text = []; tail = certificates }
+
+abbrev pub faces_of : ℕ → InputValue → Case
+faces_of limit v = face_stops v limit otherwise certifies
+
+-- with so many steps
+abbrev pub faces_answer : ℕ → List ℕ → Case
+faces_answer limit = reads (faces_of limit)

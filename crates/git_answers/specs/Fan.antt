@@ -1,0 +1,164 @@
+-- The answer of `fan` by cases.
+use Rattle.std.specs.Prelude.{◌≡◌, ◌≢◌, ℕ, ◌+◌, ◌*◌, ◌^◌, ◌<◌, ◌≤◌, List, [], ◌∷◌, ◌++◌, length, map, codes}
+use Rattle.std.specs.Fmt.{decimal, signed_decimal}
+use Rattle.std.specs.declared.cmp.Ordering.TheVariants.{Greater}
+use Rattle.git_base.specs.declared.status.Status.{Status}
+use Rattle.git_base.specs.declared.status.Status.TheVariants.{Done, Monomial, Wide, Crossed, Full, TableWide}
+use Rattle.git_lines.specs.Printing.{line_text}
+use Rattle.git_defs.specs.Vectors.{Vector}
+use Rattle.git_defs.specs.Faces.{face, IsLeastMask}
+use Rattle.git_stages.specs.Wide.{IsWideAt}
+use Rattle.git_stages.specs.declared.wide.WideAt.{WideAt}
+use Rattle.git_stages.specs.declared.wide.WideWhat.{WideWhat}
+use Rattle.git_stages.specs.declared.wide.WideWhat.TheVariants.{Entry, Many}
+use Rattle.git_ideals.specs.Faces.{IsAFace}
+use Rattle.git_input.specs.Inputs.{InputValue}
+use Rattle.git_machine.specs.Signatures.{Signature, numbers_of, signature_cmp}
+use Rattle.git_machine.specs.Reach.{Reached, ReachExceeds}
+use Rattle.git_orbit.specs.Orbits.{Fan, AreOrbitCones}
+use Rattle.git_orbit.specs.Signatures.{IsSignature, width_of}
+use Rattle.git_listing.specs.Listings.{Listing}
+use Rattle.git_listing.specs.ListingText.{listing_text}
+use Rattle.git_chamber.specs.Chambers.{first_germ, IsCell, IsNext}
+use Rattle.git_chamber.specs.Listings.{IsListing}
+use Rattle.git_chamber.specs.declared.cell.Cell.{Cell}
+use Rattle.git_chamber.specs.declared.cell.Cell.TheVariants as cell
+use Rattle.git_answers.specs.Cases.{Case, Tail, block, ◌otherwise◌, IsFirst, Outcome, says}
+use Rattle.git_answers.specs.Verdicts.{whole_face, StopsAt, StopsWith, stop_text}
+use Rattle.git_answers.specs.Reads.{reads}
+
+-- the numbers that come with the words, and the certificates that are asked for
+pub record Options : Type 0 where
+  pub table : ℕ
+  pub steps : ℕ
+  pub certs : Tail
+
+-- ---- the fan of an input
+
+-- the distinct orbit cones of the input's full a-faces
+pub record IsFanOf (v : InputValue) (fan : Fan) : Type 0 where
+  pub k : fan.k ≡ v.degrees.k
+  pub cones : AreOrbitCones v.degrees.k v.degrees.columns (IsAFace v.generators) fan.list
+
+-- them, and the signature of the first germ
+pub record IsOpening (v : InputValue) (fan : Fan) (first : Signature) : Type 0 where
+  pub is_fan : IsFanOf v fan
+  pub is_first : IsSignature fan (first_germ v.degrees.k v.degrees.columns) first
+
+-- the columns of the mask, the least with its cone, are wide
+abbrev pub IsWideFace : InputValue → ℕ → WideAt → Type 0
+IsWideFace v mask at = IsLeastMask v.degrees.k v.degrees.columns (IsAFace v.generators) mask × IsWideAt v.degrees.k (face v.degrees.columns mask) at.stage at.what
+
+-- ---- the lines
+
+abbrev pub vector_words : Vector → List (List ℕ)
+vector_words x = map signed_decimal x
+
+-- where a stage is wide: the vector, or that there are many
+abbrev pub what_words : WideWhat → List (List ℕ)
+what_words (Entry x) = codes "vector" ∷ vector_words x
+what_words Many = codes "many" ∷ []
+
+abbrev pub at_words : WideAt → List (List ℕ)
+at_words at = codes "stage" ∷ decimal at.stage ∷ what_words at.what
+
+abbrev pub wide_face_text : ℕ → WideAt → List ℕ
+wide_face_text mask at = line_text (codes "refused" ∷ codes "wide" ∷ codes "face" ∷ decimal mask ∷ at_words at)
+
+-- the numbers of a signature's cones, ascending
+abbrev pub number_words : Signature → List (List ℕ)
+number_words sig = map decimal (numbers_of sig)
+
+abbrev pub wide_chamber_text : Signature → WideAt → List ℕ
+wide_chamber_text sig at = line_text (codes "refused" ∷ codes "wide" ∷ codes "chamber" ∷ number_words sig ++ at_words at)
+
+abbrev pub weight_words : Vector → List (List ℕ)
+weight_words weight = codes "weight" ∷ vector_words weight
+
+abbrev pub cone_words : ℕ → List (List ℕ)
+cone_words cone = codes "cone" ∷ decimal cone ∷ []
+
+-- the cones of the signature, its chamber's weight, and the least number in which the weight's signature differs
+abbrev pub crossed_text : Signature → Vector → ℕ → List ℕ
+crossed_text sig weight cone = line_text (codes "refused" ∷ codes "crossed" ∷ codes "cones" ∷ number_words sig ++ (weight_words weight ++ cone_words cone))
+
+abbrev pub table_wide_text : ℕ → ℕ → List ℕ
+table_wide_text table width = line_text (codes "refused" ∷ codes "tablewide" ∷ decimal table ∷ decimal width ∷ [])
+
+abbrev pub full_text : ℕ → List ℕ
+full_text table = line_text (codes "refused" ∷ codes "full" ∷ decimal table ∷ [])
+
+abbrev pub monomial_text : List ℕ
+monomial_text = line_text (codes "refused" ∷ codes "monomial" ∷ [])
+
+-- what is answered of a signature that isn't good
+abbrev pub Refuses : Signature → Cell → Case
+Refuses sig (cell.Good c) o = ⊥
+Refuses sig (cell.Wide at) o = o ≡ says Wide (wide_chamber_text sig at)
+Refuses sig (cell.Crossed weight cone) o = o ≡ says Crossed (crossed_text sig weight cone)
+
+-- the signature is refused so
+abbrev pub IsRefused : Fan → Signature → Case
+IsRefused fan sig o = (c : Cell) × IsCell fan sig c × Refuses sig c o
+
+-- it is reached, and refused
+abbrev pub IsBad : Fan → Signature → Signature → Type 0
+IsBad fan first sig = Reached (IsNext fan) first sig × ((o : Outcome) × IsRefused fan sig o)
+
+-- not after
+abbrev pub UpTo : Signature → Signature → Type 0
+UpTo s t = signature_cmp s t ≢ Greater
+
+-- ---- the cases
+
+-- the run of the whole face stops
+abbrev pub whole_stops : InputValue → Options → Case
+whole_stops v n o = (s : Status) × StopsWith v n.steps (whole_face v) s × (o ≡ says s (stop_text s (whole_face v)))
+
+-- the ideal contains a monomial
+abbrev pub has_monomial : InputValue → Case
+has_monomial v o = (IsAFace v.generators (whole_face v) → ⊥) × (o ≡ record { status = Monomial; text = monomial_text; tail = block (whole_face v) })
+
+-- the run of another full face stops: the greatest such face is named
+abbrev pub other_stops : InputValue → Options → Case
+other_stops v n o = (mask : ℕ) × IsFirst (λ a b. b ≤ a) (λ m. (m ≢ whole_face v) × StopsAt v n.steps m) mask × ((s : Status) × StopsWith v n.steps mask s × (o ≡ says s (stop_text s mask)))
+
+-- a cone is wide: the least such mask is named
+abbrev pub wide_cone : InputValue → Case
+wide_cone v o = (mask : ℕ) × IsFirst (λ a b. a ≤ b) (λ m. (at : WideAt) × IsWideFace v m at) mask × ((at : WideAt) × IsWideFace v mask at × (o ≡ says Wide (wide_face_text mask at)))
+
+-- the table of so many signatures and 64 more would have more than 2^24 words
+abbrev pub table_wide : InputValue → Options → Case
+table_wide v n o = (fan : Fan) × IsFanOf v fan × (2 ^ 24 < (n.table + 64) * width_of fan) × (o ≡ says TableWide (table_wide_text n.table (width_of fan)))
+
+-- more signatures are reached than the table holds
+abbrev pub table_full : InputValue → Options → Case
+table_full v n o = (fan : Fan) × (first : Signature) × IsOpening v fan first × ReachExceeds (IsNext fan) first n.table × (o ≡ says Full (full_text n.table))
+
+-- a reached signature isn't good: the first in order is named
+abbrev pub not_good : InputValue → Case
+not_good v o = (fan : Fan) × (first : Signature) × IsOpening v fan first × ((sig : Signature) × IsFirst UpTo (IsBad fan first) sig × IsRefused fan sig o)
+
+-- the listing of the chambers
+abbrev pub lists : InputValue → Options → Case
+lists v n o = (fan : Fan) × (first : Signature) × IsOpening v fan first × ((l : Listing) × IsListing fan first (length v.degrees.columns) l × (o ≡ record { status = Done; text = listing_text l; tail = n.certs }))
+
+-- ---- in order
+
+abbrev pub after_reach : Options → InputValue → Case
+after_reach n v = not_good v otherwise lists v n
+
+abbrev pub after_cones : Options → InputValue → Case
+after_cones n v = table_wide v n otherwise (table_full v n otherwise after_reach n v)
+
+abbrev pub after_verdicts : Options → InputValue → Case
+after_verdicts n v = wide_cone v otherwise after_cones n v
+
+abbrev pub after_whole : Options → InputValue → Case
+after_whole n v = has_monomial v otherwise (other_stops v n otherwise after_verdicts n v)
+
+abbrev pub fan_of : Options → InputValue → Case
+fan_of n v = whole_stops v n otherwise after_whole n v
+
+abbrev pub fan_answer : Options → List ℕ → Case
+fan_answer n = reads (fan_of n)
