@@ -6,13 +6,16 @@ ghost use Rattle.std.specs.Process.{exit_status};
 ghost use Rattle.git_base.specs.Faults.{HasRisen};
 ghost use Rattle.git_base.specs.Status.{code_of};
 ghost use Rattle.git_base.specs.declared.status.Status.{Status};
-ghost use Rattle.git_top.specs.Cases.{over};
-ghost use Rattle.git_top.specs.Run.{words_of, answer_to, Ends};
+ghost use Rattle.git_top.specs.Commands.{words_of};
+ghost use Rattle.git_top.specs.Ends.{over, Ends};
+ghost use Rattle.git_top.specs.Run.{reply_to};
 
 use git_base::{Sink, Source, Status, StdSink, StdSource};
 use git_top::gitfan;
 use std::alloc::Global;
+use std::marker::Sync;
 use std::process::ExitCode;
+use std::thread::Threads;
 use std::{env, io};
 
 /// The words after the program's name.
@@ -28,29 +31,33 @@ fn exit_code(status: Status) -> ExitCode
 }
 
 /// Calls the program, and gives the code of its answer.
-fn answer<S: Source, K: Sink>(
+fn answer<R: Threads + Sync, S: Source, K: Sink>(
+    rt: &R,
     alloc: Global,
     words: &[&str],
     source: &mut S,
     sink: &mut K,
 ) -> ExitCode
-    ensures { (status : Status) × (exit_status result ≡ code_of status) × Ends (over (S.left source.old) (answer_to (words_of words.now)))
+    ensures { (status : Status) × (exit_status result ≡ code_of status) × Ends (over (S.left source.old) (reply_to (words_of words.now)))
         (HasRisen (S.faults source.old) (S.faults source.new)) (HasRisen (K.faults sink.old) (K.faults sink.new)) (K.written sink.old) (K.written sink.new) status }
 {
-    exit_code(gitfan(alloc, words, source, sink))
+    exit_code(gitfan(rt, alloc, words, source, sink))
 }
 
-/// Answers the words over standard input and standard output. Words that aren't UTF-8 are no command.
-fn run(rt: &HostRuntime) -> ExitCode {
-    let alloc = rt.alloc();
-    let mut source = StdSource::new(rt.reader());
-    let mut sink = StdSink::new(io::writer(rt));
-    let owned = match words_after_name(rt) {
+/// Answers the words over a source and a sink. Words that aren't UTF-8 are no command.
+fn run<R: Threads + Sync, S: Source, K: Sink>(
+    rt: &R,
+    alloc: Global,
+    owned: io::Result<Vec<String>>,
+    source: &mut S,
+    sink: &mut K,
+) -> ExitCode {
+    let owned = match owned {
         Ok(owned) => owned,
         Err(error) if error.kind() == io::ErrorKind::OutOfMemory => {
             return exit_code(Status::NoMemory);
         }
-        Err(_) => return answer(alloc, &["--"], &mut source, &mut sink),
+        Err(_) => return answer(rt, alloc, &["--"], source, sink),
     };
     let mut words = Vec::new(alloc);
     for word in &owned {
@@ -58,9 +65,12 @@ fn run(rt: &HostRuntime) -> ExitCode {
             return exit_code(Status::NoMemory);
         }
     }
-    answer(alloc, &words, &mut source, &mut sink)
+    answer(rt, alloc, &words, source, sink)
 }
 
 fn main(rt: HostRuntime) -> ExitCode {
-    run(&rt)
+    let words = words_after_name(&rt);
+    let mut source = StdSource::new(rt.reader());
+    let mut sink = StdSink::new(io::writer(&rt));
+    run(&rt, rt.alloc(), words, &mut source, &mut sink)
 }
