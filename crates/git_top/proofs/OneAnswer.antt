@@ -1,0 +1,146 @@
+-- Words and bytes have one answer.
+use Rattle.std.proofs.Common.{◌≡◌, ◌≢◌, ◌⊎◌, ◌∙◌, ℕ, ◌≤◌, ◌<◌, List, [], ◌∷◌, length, Option, Some, None, inl, inr, refl, sym, ap, subst, arith}
+use Rattle.std.specs.Prelude.{codes}
+use Rattle.std.specs.declared.cmp.Ordering.{Ordering}
+use Rattle.std.specs.declared.cmp.Ordering.TheVariants.{Less, Equal, Greater}
+use Rattle.std.specs.Ordering.{ordering_reverse, is_eq}
+use Rattle.git_base.specs.declared.status.Status.{Status}
+use Rattle.git_base.specs.declared.status.Status.TheVariants as status
+use Rattle.git_lines.specs.Numbers.{natural}
+use Rattle.git_defs.specs.Faces.{face}
+use Rattle.git_stages.specs.declared.wide.WideAt.{WideAt}
+use Rattle.git_stages.proofs.Uniqueness.{wide_once}
+use Rattle.git_input.specs.Inputs.{InputValue}
+use Rattle.git_text.specs.Grammar.{IsInput}
+use Rattle.git_machine.specs.Signatures.{Signature, signature_cmp}
+use Rattle.git_machine.specs.Ties.{signature_total, equal_words, level_words}
+use Rattle.git_orbit.specs.Orbits.{Fan}
+use Rattle.git_orbit.specs.Signatures.{width_of}
+use Rattle.git_listing.specs.Listings.{Listing}
+use Rattle.git_listing.specs.ListingText.{listing_text}
+use Rattle.git_chamber.specs.Chambers.{IsCell}
+use Rattle.git_chamber.specs.Listings.{IsListing}
+use Rattle.git_chamber.proofs.Uniqueness.{one_cell}
+use Rattle.git_chamber.specs.declared.cell.Cell.{Cell}
+use Rattle.git_chamber.specs.declared.cell.Cell.TheVariants as cell
+use Rattle.git_assemble.proofs.OneListing.{one_listing}
+use Rattle.git_answers.specs.Cases.{Case, Passes, HasOne, IsFirst, Outcome, says, ◌otherwise◌}
+use Rattle.git_answers.specs.Verdicts.{StopsWith, StopsAt, stop_text, whole_face}
+use Rattle.git_answers.specs.Fan.{Options, IsOpening, IsBad, IsRefused, Refuses, UpTo, IsWideFace, wide_face_text, table_wide_text, whole_stops, has_monomial, other_stops, wide_cone, table_wide, table_full, not_good, lists, after_reach, after_cones, after_verdicts, after_whole, fan_of}
+use Rattle.git_answers.proofs.CaseLaws.{one_of, one_by, one_is, one_first}
+use Rattle.git_answers.proofs.FaceLaws.{one_stop, first_stop_one, faces_one}
+use Rattle.git_answers.proofs.ReadLaws.{reads_one}
+use Rattle.git_top.specs.declared.words.Command.{Command}
+use Rattle.git_top.specs.declared.words.Command.TheVariants as command
+use Rattle.git_top.specs.Commands.{IsCommand, cases_of, options}
+use Rattle.git_top.specs.Run.{no_command, command_answer, answer_to}
+use Rattle.git_top.specs.Laws.{OneAnswer}
+use Rattle.git_top.proofs.OneFan.{one_fan, opening_along}
+
+-- ---- fan
+
+le_same : (a b : ℕ) → a ≤ b → b ≤ a → a ≡ b
+le_same a b l m = omega (arith, l, m)
+
+whole_one : (v : InputValue) (n : Options) → HasOne (whole_stops v n)
+whole_one v n = one_by (StopsWith v n.steps (whole_face v)) (λ s o. o ≡ says s (stop_text s (whole_face v))) (one_stop v n.steps (whole_face v)) (λ s. one_is (says s (stop_text s (whole_face v))))
+
+one_wide_face : (v : InputValue) (mask : ℕ) → HasOne (IsWideFace v mask)
+one_wide_face v mask a b p q =
+    let e = wide_once v.degrees.k (face v.degrees.columns mask) a.stage b.stage a.what b.what p.1 q.1 in
+    λ i. record { stage = e.0 i; what = e.1 i }
+
+wide_one : (v : InputValue) → HasOne (wide_cone v)
+wide_one v =
+    one_by (IsFirst (λ a b. a ≤ b) (λ m. (at : WideAt) × IsWideFace v m at)) (λ mask o. (at : WideAt) × IsWideFace v mask at × (o ≡ says status.Wide (wide_face_text mask at)))
+    (one_first (λ a b. a ≤ b) (λ m. (at : WideAt) × IsWideFace v m at) le_same)
+    (λ mask. one_by (IsWideFace v mask) (λ at o. o ≡ says status.Wide (wide_face_text mask at)) (one_wide_face v mask) (λ at. one_is (says status.Wide (wide_face_text mask at))))
+
+table_wide_one : (v : InputValue) (n : Options) → HasOne (table_wide v n)
+table_wide_one v n x y a b = a.3 ∙ ap (λ (f : Fan). says status.TableWide (table_wide_text n.table (width_of f))) (one_fan v a.0 b.0 a.1 b.1) ∙ sym b.3
+
+-- the order of signatures
+level : (a b : Signature) (o p : Ordering) → signature_cmp a b ≡ o → o ≡ ordering_reverse p → (o ≢ Greater) → (p ≢ Greater) → signature_cmp a b ≡ Equal
+level a b Less Less is turned here other = let h : Less ≡ Greater = turned in cc h
+level a b Less Equal is turned here other = let h : Less ≡ Equal = turned in cc h
+level a b Less Greater is turned here other = absurd (other refl)
+level a b Equal p is turned here other = is
+level a b Greater p is turned here other = absurd (here refl)
+
+up_same : (a b : Signature) → UpTo a b → UpTo b a → a ≡ b
+up_same a b p q = (equal_words a b).0 (level_words a b (ap is_eq (level a b (signature_cmp a b) (signature_cmp b a) refl (signature_total.antisymm a b) p q)))
+
+refuses_one : (sig : Signature) (c : Cell) → HasOne (Refuses sig c)
+refuses_one sig (cell.Good c) x y p q = absurd p
+refuses_one sig (cell.Wide at) x y p q = p ∙ sym q
+refuses_one sig (cell.Crossed weight number) x y p q = p ∙ sym q
+
+refused_one : (fan : Fan) (sig : Signature) → HasOne (IsRefused fan sig)
+refused_one fan sig = one_by (IsCell fan sig) (Refuses sig) (one_cell fan sig) (refuses_one sig)
+
+bad_one : (fan : Fan) (first : Signature) → HasOne (λ o. (sig : Signature) × IsFirst UpTo (IsBad fan first) sig × IsRefused fan sig o)
+bad_one fan first = one_by (IsFirst UpTo (IsBad fan first)) (IsRefused fan) (one_first UpTo (IsBad fan first) up_same) (refused_one fan)
+
+not_good_one : (v : InputValue) → HasOne (not_good v)
+not_good_one v x y a b =
+    bad_one b.0 b.1 x y
+    (opening_along v a.0 b.0 a.1 b.1 (λ fan first. (sig : Signature) × IsFirst UpTo (IsBad fan first) sig × IsRefused fan sig x) a.2 b.2 a.3) b.3
+
+lists_one : (v : InputValue) (n : Options) → HasOne (lists v n)
+lists_one v n x y a b =
+    one_by (IsListing b.0 b.1 (length v.degrees.columns)) (λ l o. o ≡ record { status = status.Done; text = listing_text l; tail = n.certs }) (one_listing b.0 b.1 (length v.degrees.columns)) (λ l. one_is _) x y
+    (opening_along v a.0 b.0 a.1 b.1 (λ fan first. (l : Listing) × IsListing fan first (length v.degrees.columns) l × (x ≡ record { status = status.Done; text = listing_text l; tail = n.certs })) a.2 b.2 a.3) b.3
+
+fan_one : (v : InputValue) (n : Options) → HasOne (fan_of n v)
+fan_one v n =
+    one_of (whole_stops v n) (after_whole n v) (whole_one v n) (λ a.
+    one_of (has_monomial v) (other_stops v n otherwise after_verdicts n v) (λ x y p q. p.1 ∙ sym q.1) (λ b.
+    one_of (other_stops v n) (after_verdicts n v) (first_stop_one v n.steps (λ m. (m ≢ whole_face v) × StopsAt v n.steps m)) (λ c.
+    one_of (wide_cone v) (after_cones n v) (wide_one v) (λ d.
+    one_of (table_wide v n) (table_full v n otherwise after_reach n v) (table_wide_one v n) (λ e.
+    one_of (table_full v n) (after_reach n v) (λ x y p q. p.4 ∙ sym q.4) (λ f.
+    one_of (not_good v) (lists v n) (not_good_one v) (λ g. lists_one v n)))))))
+
+-- ---- commands
+
+cases_one : (c : Command) (v : InputValue) → HasOne (cases_of c v)
+cases_one (command.Fan table steps certs) v = fan_one v (options table steps certs)
+cases_one (command.Faces steps) v = faces_one v steps
+
+command_one : (c : Command) (bytes : List ℕ) → HasOne (command_answer c bytes)
+command_one c bytes = reads_one (cases_of c) bytes (λ v is. cases_one c v)
+
+heads : (a b : List ℕ) (us vs : List (List ℕ)) → a ∷ us ≡ b ∷ vs → a ≡ b
+heads a b us vs e = cc
+
+fan_is_no_faces : codes "fan" ≡ codes "faces" → ⊥
+fan_is_no_faces e = let h = ap (λ (bs : List ℕ). length bs) e in omega (arith, h)
+
+first_word : (a b : List ℕ) (words us vs : List (List ℕ)) → words ≡ a ∷ us → words ≡ b ∷ vs → a ≡ b
+first_word a b words us vs p q = heads a b us vs (sym p ∙ q)
+
+third_word : (a b : List ℕ) (words : List (List ℕ)) → words ≡ codes "faces" ∷ codes "--steps" ∷ a ∷ [] → words ≡ codes "faces" ∷ codes "--steps" ∷ b ∷ [] → a ≡ b
+third_word a b words p q = cc
+
+number_once : (o : Option ℕ) (m n : ℕ) → o ≡ Some m → o ≡ Some n → m ≡ n
+number_once o m n p q = cc
+
+lengths_differ : (a : List ℕ) (words : List (List ℕ)) → words ≡ codes "faces" ∷ [] → words ≡ codes "faces" ∷ codes "--steps" ∷ a ∷ [] → ⊥
+lengths_differ a words p q = let h = ap (λ (ws : List (List ℕ)). length ws) (sym p ∙ q) in omega (arith, h)
+
+one_command : (words : List (List ℕ)) → HasOne (IsCommand words)
+one_command words (command.Fan table steps certs) (command.Fan other n more) a b = a.1 ∙ sym b.1
+one_command words (command.Fan table steps certs) (command.Faces n) a (inl b) = absurd (fan_is_no_faces (first_word (codes "fan") (codes "faces") words _ _ a.0 b.0))
+one_command words (command.Fan table steps certs) (command.Faces n) a (inr b) = absurd (fan_is_no_faces (first_word (codes "fan") (codes "faces") words _ _ a.0 b.are))
+one_command words (command.Faces n) (command.Fan table steps certs) (inl a) b = absurd (fan_is_no_faces (first_word (codes "fan") (codes "faces") words _ _ b.0 a.0))
+one_command words (command.Faces n) (command.Fan table steps certs) (inr a) b = absurd (fan_is_no_faces (first_word (codes "fan") (codes "faces") words _ _ b.0 a.are))
+one_command words (command.Faces m) (command.Faces n) (inl a) (inl b) = ap command.Faces (a.1 ∙ sym b.1)
+one_command words (command.Faces m) (command.Faces n) (inl a) (inr b) = absurd (lengths_differ b.word words a.0 b.are)
+one_command words (command.Faces m) (command.Faces n) (inr a) (inl b) = absurd (lengths_differ a.word words b.0 a.are)
+one_command words (command.Faces m) (command.Faces n) (inr a) (inr b) =
+    ap command.Faces (number_once (natural a.word) m n a.number.value (ap natural (third_word a.word b.word words a.are b.are) ∙ b.number.value))
+
+pub one_answer : OneAnswer
+one_answer words bytes =
+    one_of (no_command words) (λ o. (c : Command) × IsCommand words c × command_answer c bytes o) (λ x y a b. a.1 ∙ sym b.1) (λ p.
+    one_by (IsCommand words) (λ c. command_answer c bytes) (one_command words) (λ c. command_one c bytes))

@@ -1,0 +1,46 @@
+-- What holds of the answers.
+use Rattle.std.specs.Prelude.{◌≡◌, ℕ, ◌+◌, ◌*◌, ◌^◌, ◌≤◌, Bool, List, length}
+use Rattle.git_base.specs.declared.status.Status.{Status}
+use Rattle.git_base.specs.declared.status.Status.TheVariants.{Done}
+use Rattle.git_limits.specs.declared.TheConstants.{INPUT_BYTES}
+use Rattle.git_stages.specs.declared.wide.WideAt.{WideAt}
+use Rattle.git_ideals.specs.Faces.{IsAFace}
+use Rattle.git_input.specs.Inputs.{InputValue}
+use Rattle.git_text.specs.Grammar.{IsInput}
+use Rattle.git_machine.specs.Signatures.{Signature}
+use Rattle.git_machine.specs.Reach.{ReachExceeds}
+use Rattle.git_orbit.specs.Orbits.{Fan}
+use Rattle.git_orbit.specs.Signatures.{width_of}
+use Rattle.git_chamber.specs.Chambers.{IsNext}
+use Rattle.git_answers.specs.Cases.{Passes, HasOne, Outcome}
+use Rattle.git_answers.specs.Verdicts.{IsFullFace, StopsWith, whole_face}
+use Rattle.git_answers.specs.Fan.{IsFanOf, IsOpening, IsWideFace, IsBad}
+use Rattle.git_top.specs.declared.words.Command.TheVariants as command
+use Rattle.git_top.specs.Run.{answer_to, command_answer}
+
+-- words and bytes have one answer at most: its status, its text, and which certificates follow
+abbrev pub OneAnswer : Type 0
+OneAnswer = (words : List (List ℕ)) (bytes : List ℕ) → HasOne (answer_to words bytes)
+
+-- the run of each full face ends within the steps
+abbrev pub AllEnd : InputValue → ℕ → Type 0
+AllEnd v steps = (mask : ℕ) → IsFullFace v mask → Passes (StopsWith v steps mask)
+
+-- `faces` is done where all runs end
+abbrev pub FacesAreDone : Type 0
+FacesAreDone = (steps : ℕ) (bytes : List ℕ) (v : InputValue) (o : Outcome) → length bytes ≤ INPUT_BYTES → IsInput bytes v → AllEnd v steps
+    → command_answer (command.Faces steps) bytes o → o.status ≡ Done
+
+-- nothing stands in the way of the listing
+pub record NothingRefuses (v : InputValue) (table steps : ℕ) : Type 0 where
+  pub a_face : IsAFace v.generators (whole_face v)
+  pub ends : AllEnd v steps
+  pub narrow : (mask : ℕ) (at : WideAt) → IsWideFace v mask at → ⊥
+  pub fits : (fan : Fan) → IsFanOf v fan → (table + 64) * width_of fan ≤ 2 ^ 24
+  pub reach : (fan : Fan) (first : Signature) → IsOpening v fan first → ReachExceeds (IsNext fan) first table → ⊥
+  pub good : (fan : Fan) (first sig : Signature) → IsOpening v fan first → IsBad fan first sig → ⊥
+
+-- `fan` is done there
+abbrev pub InputsAreDone : Type 0
+InputsAreDone = (table steps : ℕ) (certs : Bool) (bytes : List ℕ) (v : InputValue) (o : Outcome) → length bytes ≤ INPUT_BYTES → IsInput bytes v → NothingRefuses v table steps
+    → command_answer (command.Fan table steps certs) bytes o → o.status ≡ Done
