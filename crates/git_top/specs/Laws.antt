@@ -12,7 +12,7 @@ use Rattle.git_machine.specs.Reach.{ReachExceeds}
 use Rattle.git_orbit.specs.Orbits.{Fan}
 use Rattle.git_orbit.specs.Signatures.{width_of}
 use Rattle.git_chamber.specs.Chambers.{IsNext}
-use Rattle.git_answers.specs.Cases.{Passes, HasOne, Outcome}
+use Rattle.git_answers.specs.Cases.{Passes, HasOne, HasSome, Outcome}
 use Rattle.git_answers.specs.Verdicts.{IsFullFace, StopsWith, whole_face}
 use Rattle.git_answers.specs.Fan.{IsFanOf, IsOpening, IsWideFace, IsBad}
 use Rattle.git_top.specs.declared.words.Command.TheVariants as command
@@ -21,6 +21,10 @@ use Rattle.git_top.specs.Run.{answer_to, command_answer}
 -- words and bytes have one answer at most: its status, its text, and which certificates follow
 abbrev pub OneAnswer : Type 0
 OneAnswer = (words : List (List ℕ)) (bytes : List ℕ) → HasOne (answer_to words bytes)
+
+-- and one at least
+abbrev pub EachHasAnAnswer : Type 0
+EachHasAnAnswer = (words : List (List ℕ)) (bytes : List ℕ) → HasSome (answer_to words bytes)
 
 -- the run of each full face ends within the steps
 abbrev pub AllEnd : InputValue → ℕ → Type 0

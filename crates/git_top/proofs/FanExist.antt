@@ -1,0 +1,350 @@
+-- Each input has an answer of `fan`.
+use Rattle.std.proofs.Common.{◌≡◌, ◌≢◌, ◌⊎◌, ◌∙◌, ℕ, ◌+◌, ◌-◌, ◌*◌, ◌^◌, ◌<◌, ◌≤◌, List, [], ◌∷◌, ◌++◌, length, get_or, All, inl, inr, refl, sym, ap, subst, arith}
+use Rattle.std.specs.Prelude.{◌↔◌, Contains}
+use Rattle.std.proofs.lemmas.Bool.{cases_lt, cases_eq}
+use Rattle.std.proofs.Math.Pow.{pow_mono}
+use Rattle.std.specs.Cmp.{tied_itself}
+use Rattle.std.specs.declared.cmp.Ordering.{Ordering}
+use Rattle.std.specs.declared.cmp.Ordering.TheVariants.{Less, Equal, Greater}
+use Rattle.git_lemmas.specs.Members.{Member}
+use Rattle.git_lemmas.proofs.Members.{contains_member, member_contains, all_member, member_all}
+use Rattle.git_lemmas.proofs.Sorting.{Ascends, ascends_of_pairs, pairs_of_ascends}
+use Rattle.git_base.specs.declared.status.Status.{Status}
+use Rattle.git_base.specs.declared.status.Status.TheVariants as status
+use Rattle.git_defs.specs.Vectors.{Vector, AllOfLength, vector_sum, units}
+use Rattle.git_defs.specs.Faces.{face, IsFullDimensional, IsLeastMask}
+use Rattle.git_defs.proofs.Lengths.{OfLength, all_of_length, of_length_all, more_of_length, none_of_length}
+use Rattle.git_geometry.proofs.Inside.{length-vector_sum}
+use Rattle.git_minors.proofs.Parts.{face_of_length}
+use Rattle.git_grading.specs.Gradings.{IsGrading}
+use Rattle.git_stages.specs.Wide.{NeverWide, IsWideAt}
+use Rattle.git_stages.specs.declared.wide.WideAt.{WideAt}
+use Rattle.git_stages.proofs.Uniqueness.{wide_not_never}
+use Rattle.git_stages.proofs.Decided.{wide_decided}
+use Rattle.git_algebra.specs.Operations.{total_degree}
+use Rattle.git_ideals.specs.Faces.{IsAFace}
+use Rattle.git_input.specs.Inputs.{InputValue, AreGenerators}
+use Rattle.git_basis.specs.Run.{after}
+use Rattle.git_basis.specs.Stops.{Ends}
+use Rattle.git_basis.proofs.Goes.{stops, has_unit_or_not}
+use Rattle.git_saturate.proofs.Verdicts.{a_face, degrees_small}
+use Rattle.git_machine.specs.Signatures.{Signature, signature_cmp}
+use Rattle.git_machine.specs.Ties.{signature_total}
+use Rattle.git_machine.specs.Reach.{Reached, IsReach, ReachExceeds}
+use Rattle.git_machine.proofs.Once.{once_fits}
+use Rattle.git_plain.specs.Closing.{InOrder}
+use Rattle.git_plain.specs.Laws.{IsListed}
+use Rattle.git_plain.proofs.Listed.{listed_or_exceeds}
+use Rattle.git_orbit.specs.Orbits.{Fan, AreFaces, AreOrbitCones, IsFan, IsNewFault}
+use Rattle.git_orbit.specs.Signatures.{IsSignature, IsLegal, width_of}
+use Rattle.git_orbit.specs.declared.orbit.OrbitCone.{OrbitCone}
+use Rattle.git_orbit.specs.declared.orbit.ConesFault.TheVariants as fault
+use Rattle.git_orbit.proofs.Accepted.{cones_along, fault_along}
+use Rattle.git_orbit.proofs.Settled.{cones_or_wide, not_both}
+use Rattle.git_orbit.proofs.Existence.{a_signature}
+use Rattle.git_chamber.specs.Chambers.{first_germ, IsCell, IsNext}
+use Rattle.git_chamber.specs.Views.{IsGraph, AreConesOf}
+use Rattle.git_chamber.specs.Nexts.{one_next}
+use Rattle.git_chamber.specs.declared.cell.Cell.{Cell}
+use Rattle.git_chamber.specs.declared.cell.Cell.TheVariants as cell
+use Rattle.git_chamber.proofs.Graphs.{reached_legal}
+use Rattle.git_chamber.proofs.Existence.{cell_exists, next_exists}
+use Rattle.git_chamber.proofs.Firsts.{first_legal}
+use Rattle.git_chamber.proofs.UnitGerms.{of_length_units}
+use Rattle.git_listing.specs.ListingText.{listing_text}
+use Rattle.git_assemble.specs.Assembling.{IsGoodSignature, AllGood}
+use Rattle.git_assemble.proofs.Exists.{a_listing}
+use Rattle.git_faces.specs.FaceVerdicts.{RunEnds}
+use Rattle.git_faces.specs.FullFaces.{AreFullFaces}
+use Rattle.git_faces.proofs.FullLists.{some as full_list}
+use Rattle.git_faces.proofs.FirstStops.{some as first_or_all}
+use Rattle.git_answers.specs.Cases.{Passes, HasSome, Settles, IsFirst, Outcome, says, block, ◌otherwise◌}
+use Rattle.git_answers.specs.Verdicts.{IsFullFace, StopsWith, StopsAt, stop_text, start_at, whole_face}
+use Rattle.git_answers.specs.Fan.{Options, IsFanOf, IsOpening, IsWideFace, IsBad, IsRefused, Refuses, UpTo, monomial_text, wide_face_text, wide_chamber_text, crossed_text, table_wide_text, full_text, whole_stops, has_monomial, other_stops, wide_cone, table_wide, table_full, not_good, lists, after_reach, after_cones, after_verdicts, after_whole, fan_of}
+use Rattle.git_answers.proofs.CaseLaws.{some_of}
+use Rattle.git_top.proofs.FacesExist.{stop_of}
+use Rattle.git_top.proofs.FullFaces.{runs_on, whole_full, StartsWhole, starts_whole, first_other}
+use Rattle.git_top.proofs.NotGood.{good_not_refused}
+use Rattle.git_top.proofs.OneFan.{one_fan, opening_along}
+
+-- ---- those of a list that are accepted
+record Kept (P : ℕ → Type 0) (ms us : List ℕ) : Type 0 where
+  falls : Ascends (λ (m n : ℕ). n < m) us
+  to : (m : ℕ) → Member m us → Member m ms × P m
+  back : (m : ℕ) → Member m ms → P m → Member m us
+
+kept : (P : ℕ → Type 0) (ms : List ℕ) → Ascends (λ (m n : ℕ). n < m) ms → ((m : ℕ) → Member m ms → P m ⊎ (P m → ⊥)) → (us : List ℕ) × Kept P ms us
+kept P [] falls decide = ([], record { falls = tt; to = λ m o. absurd o; back = λ m o. absurd o })
+kept P (m ∷ ms) falls decide = by (decide m (inl refl)) (kept P ms falls.1 (λ n o. decide n (inr o))) where
+  by : P m ⊎ (P m → ⊥) → (us : List ℕ) × Kept P ms us → (us : List ℕ) × Kept P (m ∷ ms) us
+  by (inl p) rest = (m ∷ rest.0, record { falls = ((λ n o. falls.0 n (rest.1.to n o).0), rest.1.falls); to = to; back = back }) where
+    to : (n : ℕ) → Member n (m ∷ rest.0) → Member n (m ∷ ms) × P n
+    to n (inl e) = (inl e, subst P e p)
+    to n (inr o) = let t = rest.1.to n o in (inr t.0, t.1)
+
+    back : (n : ℕ) → Member n (m ∷ ms) → P n → Member n (m ∷ rest.0)
+    back n (inl e) q = inl e
+    back n (inr o) q = inr (rest.1.back n o q)
+  by (inr out) rest = (rest.0, record { falls = rest.1.falls; to = λ n o. (let t = rest.1.to n o in (inr t.0, t.1)); back = back }) where
+    back : (n : ℕ) → Member n (m ∷ ms) → P n → Member n rest.0
+    back n (inl e) q = absurd (out (subst P (sym e) q))
+    back n (inr o) q = rest.1.back n o q
+
+module _ (v : InputValue) (n : Options) (g : IsGrading v.degrees.k v.degrees.columns) (gens : AreGenerators v.degrees v.generators) where
+  -- ---- runs
+  whole_settles : Settles (whole_stops v n)
+  whole_settles = elim (stops (start_at v (whole_face v)) n.steps) [
+    | inl e ↦ inr (λ o h. runs_on v n.steps (whole_face v) e.0 e.1 h.0 h.1)
+    | inr s ↦ (let t = stop_of v n.steps (whole_face v) s in inl (says t.0 (stop_text t.0 (whole_face v)), (t.0, t.1, refl)))
+  ]
+
+  whole_ends : Passes (whole_stops v n) → RunEnds v.generators n.steps (whole_face v)
+  whole_ends p = elim (stops (start_at v (whole_face v)) n.steps) [
+    | inl e ↦ record { steps = e.0; ends = e.1 }
+    | inr s ↦ (let t = stop_of v n.steps (whole_face v) s in absurd (p (says t.0 (stop_text t.0 (whole_face v))) (t.0, t.1, refl)))
+  ]
+
+  low_mask : (m : ℕ) → IsFullFace v m → m < 65536
+  low_mask m f =
+      let few : length v.degrees.columns ≤ 16 = g.matrix.few_columns in
+      let room : 2 ^ length v.degrees.columns ≤ 2 ^ 16 = pow_mono few in
+      let low = f.in_range in omega (arith, room, low)
+
+  face_decided : (m : ℕ) → IsFullFace v m → RunEnds v.generators n.steps m → IsAFace v.generators m ⊎ (IsAFace v.generators m → ⊥)
+  face_decided m f e =
+      let decides = a_face v.generators m n.steps e.steps (low_mask m f) (degrees_small v.degrees.columns v.generators v.generators refl gens.graded) e.ends in
+      elim (has_unit_or_not (after (start_at v m) e.steps)) [ inl unit ↦ inr (λ is. decides.0 is unit) | inr none ↦ inl (decides.1 none) ]
+
+  monomial_settles : RunEnds v.generators n.steps (whole_face v) → Settles (has_monomial v)
+  monomial_settles e = elim (face_decided (whole_face v) (whole_full v g) e) [
+    | inl a ↦ inr (λ o h. h.0 a)
+    | inr out ↦ inl (record { status = status.Monomial; text = monomial_text; tail = block (whole_face v) }, (out, refl))
+  ]
+
+  is_a_face : RunEnds v.generators n.steps (whole_face v) → Passes (has_monomial v) → IsAFace v.generators (whole_face v)
+  is_a_face e p = elim (face_decided (whole_face v) (whole_full v g) e) [
+    | inl a ↦ a
+    | inr out ↦ absurd (p (record { status = status.Monomial; text = monomial_text; tail = block (whole_face v) }) (out, refl))
+  ]
+
+  -- ---- all full faces, and the others
+  full : (masks : List ℕ) × AreFullFaces v.degrees.k v.degrees.columns masks
+  full = full_list v.degrees.k v.degrees.columns g.matrix.lengths
+
+  sw : StartsWhole v full.0
+  sw = starts_whole v full.0 g full.1
+
+  others_settle : Settles (other_stops v n)
+  others_settle = elim (first_or_all v.generators n.steps sw.rest) [
+    | inl all ↦ inr (λ o h.
+        let e = all_member (RunEnds v.generators n.steps) h.0 sw.rest all (sw.others.each h.0 h.1.holds.1.0 h.1.holds.0) in
+        runs_on v n.steps h.0 e.steps e.ends h.1.holds.1.1.0 h.1.holds.1.1.1)
+    | inr f ↦ (let t = stop_of v n.steps f.mask f.stops in
+        inl (says t.0 (stop_text t.0 f.mask), (f.mask, first_other v n.steps sw.rest f.mask t.0 sw.others f.before t.1, (t.0, t.1, refl))))
+  ]
+
+  all_run : RunEnds v.generators n.steps (whole_face v) → Passes (other_stops v n) → (m : ℕ) → IsFullFace v m → RunEnds v.generators n.steps m
+  all_run e p m f = elim (cases_eq m (whole_face v)) [
+    | inl same ↦ subst (RunEnds v.generators n.steps) (sym same) e
+    | inr other ↦ elim (first_or_all v.generators n.steps sw.rest) [
+      | inl all ↦ all_member (RunEnds v.generators n.steps) m sw.rest all (sw.others.each m f other)
+      | inr s ↦ (let t = stop_of v n.steps s.mask s.stops in
+          absurd (p (says t.0 (stop_text t.0 s.mask)) (s.mask, first_other v n.steps sw.rest s.mask t.0 sw.others s.before t.1, (t.0, t.1, refl))))
+    ]
+  ]
+
+  module _ (runs : (m : ℕ) → IsFullFace v m → RunEnds v.generators n.steps m) (a : IsAFace v.generators (whole_face v)) where
+    -- ---- the full a-faces
+    is_full : (m : ℕ) → Member m full.0 → IsFullFace v m
+    is_full m o = (full.1.each m).0 (member_contains m full.0 o)
+
+    among : (m : ℕ) → IsFullFace v m → Member m full.0
+    among m f = contains_member m full.0 ((full.1.each m).1 f)
+
+    us : (us : List ℕ) × Kept (IsAFace v.generators) full.0 us
+    us = kept (IsAFace v.generators) full.0 (ascends_of_pairs (λ (m n : ℕ). n < m) full.0 full.1.descending) (λ m o. face_decided m (is_full m o) (runs m (is_full m o)))
+
+    faces : AreFaces v.degrees.k v.degrees.columns us.0
+    faces = record {
+      in_range = member_all (λ m. m < 2 ^ length v.degrees.columns) us.0 (λ m o. (is_full m (us.1.to m o).0).in_range);
+      full = member_all (IsFullDimensional v.degrees.k v.degrees.columns) us.0 (λ m o. (is_full m (us.1.to m o).0).full);
+      descending = pairs_of_ascends (λ (m n : ℕ). n < m) us.0 us.1.falls;
+    }
+
+    same : (m : ℕ) → m < 2 ^ length v.degrees.columns → IsFullDimensional v.degrees.k v.degrees.columns m → Contains us.0 m ↔ IsAFace v.generators m
+    same m low f = (λ c. (us.1.to m (contains_member m us.0 c)).1, λ b. member_contains m us.0 (us.1.back m (among m (record { in_range = low; full = f; is_accepted = tt })) b))
+
+    back : (m : ℕ) → m < 2 ^ length v.degrees.columns → IsFullDimensional v.degrees.k v.degrees.columns m → IsAFace v.generators m ↔ Contains us.0 m
+    back m low f = let s = same m low f in (s.1, s.0)
+
+    -- ---- cones
+    wide_some : (mask : ℕ) (at : WideAt) → IsNewFault v.degrees.k v.degrees.columns (Contains us.0) (fault.Wide mask at) → wide_cone v (says status.Wide (wide_face_text mask at))
+    wide_some mask at given =
+        let f = fault_along v.degrees.k v.degrees.columns (Contains us.0) (IsAFace v.generators) same mask at given in
+        let here : IsWideFace v mask at = (f.0.is_least, f.1) in (
+          mask,
+          record {
+            holds = (at, here);
+            first = λ m p. elim (cases_lt m mask) [
+              | inl below ↦ absurd (wide_not_never v.degrees.k (face v.degrees.columns m) p.0.stage p.0.what p.1.1 (f.0.first m p.1.0 below))
+              | inr up ↦ up
+            ];
+          },
+          (at, here, refl),
+        )
+
+    none_wide : (list : List OrbitCone) → AreOrbitCones v.degrees.k v.degrees.columns (Contains us.0) list → Passes (wide_cone v)
+    none_wide list c o h =
+        let mask = h.0 in
+        let given : IsNewFault v.degrees.k v.degrees.columns (IsAFace v.generators) (fault.Wide mask h.2.0) = (
+          record {
+            is_least = h.2.1.0;
+            first = λ m least low. elim (narrow_or_wide m least) [ inl narrow ↦ narrow | inr w ↦ (let up = h.1.first m (w.0, (least, w.1)) in absurd (omega (arith, up, low))) ];
+          },
+          h.2.1.1,
+        ) in
+        not_both v.degrees.k v.degrees.columns us.0 g faces mask h.2.0 list (fault_along v.degrees.k v.degrees.columns (IsAFace v.generators) (Contains us.0) back mask h.2.0 given) c
+      where
+        narrow_or_wide : (m : ℕ) → IsLeastMask v.degrees.k v.degrees.columns (IsAFace v.generators) m → NeverWide v.degrees.k (face v.degrees.columns m) ⊎ ((at : WideAt) × IsWideAt v.degrees.k (face v.degrees.columns m) at.stage at.what)
+        narrow_or_wide m least = elim (wide_decided v.degrees.k (face v.degrees.columns m) (of_length_all v.degrees.k (face v.degrees.columns m) (face_of_length v.degrees.k v.degrees.columns m (all_of_length v.degrees.k v.degrees.columns g.matrix.lengths))) least.is_face.full) [
+          | inl never ↦ inl never
+          | inr w ↦ inr (record { stage = w.0; what = w.1 }, w.2)
+        ]
+
+    module _ (list : List OrbitCone) (cones : AreOrbitCones v.degrees.k v.degrees.columns (Contains us.0) list) where
+      abbrev fan : Fan
+      fan = record { k = v.degrees.k; list = list }
+
+      is_fan_of : IsFanOf v fan
+      is_fan_of = record { k = refl; cones = cones_along v.degrees.k v.degrees.columns (Contains us.0) (IsAFace v.generators) same list cones }
+
+      is_fan : IsFan v.degrees.k list
+      is_fan = record { columns = v.degrees.columns; grading = g; masks = us.0; faces = faces; cones = cones }
+
+      is_graph : IsGraph (record { fan = fan; columns = v.degrees.columns })
+      is_graph = record {
+        grading = g;
+        cones = record { masks = us.0; faces = faces; whole = member_contains (whole_face v) us.0 (us.1.back (whole_face v) (among (whole_face v) (whole_full v g)) a); cones = cones };
+      }
+
+      table_wide_settles : Settles (table_wide v n)
+      table_wide_settles = elim (cases_lt (2 ^ 24) ((n.table + 64) * width_of fan)) [
+        | inl more ↦ inl (says status.TableWide (table_wide_text n.table (width_of fan)), (fan, is_fan_of, more, refl))
+        | inr fits ↦ inr (λ o h. (let more = subst (λ (f : Fan). 2 ^ 24 < (n.table + 64) * width_of f) (one_fan v h.0 fan h.1 is_fan_of) h.2 in omega (arith, fits, more)))
+      ]
+
+      -- ---- the first signature, and what is reached from it
+      sum_long : AllOfLength v.degrees.k (vector_sum v.degrees.k v.degrees.columns ∷ [])
+      sum_long = of_length_all v.degrees.k (vector_sum v.degrees.k v.degrees.columns ∷ [])
+          (more_of_length v.degrees.k (vector_sum v.degrees.k v.degrees.columns) [] (length-vector_sum v.degrees.k v.degrees.columns (all_of_length v.degrees.k v.degrees.columns g.matrix.lengths)) (none_of_length v.degrees.k))
+
+      first : (sig : Signature) × IsSignature fan (first_germ v.degrees.k v.degrees.columns) sig
+      first = a_signature fan (first_germ v.degrees.k v.degrees.columns) (of_length_units v.degrees.k (vector_sum v.degrees.k v.degrees.columns ∷ []) sum_long)
+
+      opening : IsOpening v fan first.0
+      opening = record { is_fan = is_fan_of; is_first = first.1 }
+
+      legal : IsLegal fan first.0
+      legal = first_legal (record { fan = fan; columns = v.degrees.columns }) is_graph first.0 first.1
+
+      listed : ReachExceeds (IsNext fan) first.0 n.table ⊎ ((xs : List Signature) × IsListed (IsNext fan) first.0 n.table xs)
+      listed = listed_or_exceeds (IsNext fan) first.0 n.table (λ s r. next_exists fan s is_fan (reached_legal fan first.0 s legal r)) (λ s x y r p q. one_next fan s x y p q)
+
+      module _ (xs : List Signature) (l : IsListed (IsNext fan) first.0 n.table xs) where
+        fits : Passes (table_full v n)
+        fits o h =
+            let e = opening_along v h.0 fan h.1 first.0 (λ f s. ReachExceeds (IsNext f) s n.table) h.2 opening h.3 in
+            let few = once_fits e.some xs e.once (λ i d low. l.reach.complete (get_or e.some i d) (e.reached i d low)) in
+            let many = e.many in let at_most = l.few in omega (arith, few, many, at_most)
+
+        by_cell : (s : Signature) (c : Cell) → IsCell fan s c → IsGoodSignature fan s ⊎ ((o : Outcome) × IsRefused fan s o)
+        by_cell s (cell.Good c) is = inl (c, is)
+        by_cell s (cell.Wide at) is = inr (says status.Wide (wide_chamber_text s at), (cell.Wide at, is, refl))
+        by_cell s (cell.Crossed w number) is = inr (says status.Crossed (crossed_text s w number), (cell.Crossed w number, is, refl))
+
+        good_or_refused : (s : Signature) → Reached (IsNext fan) first.0 s → IsGoodSignature fan s ⊎ ((o : Outcome) × IsRefused fan s o)
+        good_or_refused s r = let c = cell_exists fan s is_fan (reached_legal fan first.0 s legal r) in by_cell s c.0 c.1
+
+        record FirstRefused (ys : List Signature) : Type 0 where
+          sig : Signature
+          member : Member sig ys
+          outcome : Outcome
+          refused : IsRefused fan sig outcome
+          before : (s : Signature) → Member s ys → IsGoodSignature fan s ⊎ UpTo sig s
+
+        less_up : (s t : Signature) → signature_cmp s t ≡ Less → UpTo s t
+        less_up s t e h = let f : Less ≡ Greater = sym e ∙ h in cc f
+
+        self_up : (s t : Signature) → s ≡ t → UpTo s t
+        self_up s t e h = let f : Equal ≡ Greater = sym (tied_itself signature_total s) ∙ ap (λ (u : Signature). signature_cmp s u) e ∙ h in cc f
+
+        search_bad : (ys : List Signature) → Ascends (λ s t. signature_cmp s t ≡ Less) ys → ((s : Signature) → Member s ys → Reached (IsNext fan) first.0 s) → ((s : Signature) → Member s ys → IsGoodSignature fan s) ⊎ FirstRefused ys
+        search_bad [] falls reached = inl (λ s o. absurd o)
+        search_bad (y ∷ ys) falls reached = by (good_or_refused y (reached y (inl refl))) (search_bad ys falls.1 (λ s o. reached s (inr o))) where
+          by : IsGoodSignature fan y ⊎ ((o : Outcome) × IsRefused fan y o) → ((s : Signature) → Member s ys → IsGoodSignature fan s) ⊎ FirstRefused ys → ((s : Signature) → Member s (y ∷ ys) → IsGoodSignature fan s) ⊎ FirstRefused (y ∷ ys)
+          by (inr r) rest = inr (record {
+            sig = y; member = inl refl; outcome = r.0; refused = r.1;
+            before = λ s o. elim o [ inl e ↦ inr (self_up y s e) | inr later ↦ inr (less_up y s (falls.0 s later)) ];
+          })
+          by (inl good) (inl all) = inl (λ s o. elim o [ inl e ↦ subst (IsGoodSignature fan) e good | inr later ↦ all s later ])
+          by (inl good) (inr f) = inr (record {
+            sig = f.sig; member = inr f.member; outcome = f.outcome; refused = f.refused;
+            before = λ s o. elim o [ inl e ↦ inl (subst (IsGoodSignature fan) e good) | inr later ↦ f.before s later ];
+          })
+
+        reached_in : (s : Signature) → Member s xs → Reached (IsNext fan) first.0 s
+        reached_in s o = all_member (Reached (IsNext fan) first.0) s xs l.reach.sound o
+
+        searched : ((s : Signature) → Member s xs → IsGoodSignature fan s) ⊎ FirstRefused xs
+        searched = search_bad xs (ascends_of_pairs (λ (s t : Signature). signature_cmp s t ≡ Less) xs l.order) reached_in
+
+        bad_named : (f : FirstRefused xs) → not_good v f.outcome
+        bad_named f = (
+          fan,
+          first.0,
+          opening,
+          (
+            f.sig,
+            record {
+              holds = (reached_in f.sig f.member, (f.outcome, f.refused));
+              first = λ t b. elim (f.before t (contains_member t xs (l.reach.complete t b.0))) [ inl good ↦ absurd (good_not_refused fan t b.1.0 good b.1.1) | inr up ↦ up ];
+            },
+            f.refused,
+          ),
+        )
+
+        reach_some : HasSome (after_reach n v)
+        reach_some = elim searched [
+          | inr f ↦ (f.outcome, inl (bad_named f))
+          | inl good ↦ (
+              let all : AllGood fan first.0 = λ s r. good s (contains_member s xs (l.reach.complete s r)) in
+              let listing = a_listing fan first.0 (length v.degrees.columns) xs legal l.reach all in (
+                record { status = status.Done; text = listing_text listing.0; tail = n.certs },
+                inr (
+                  (λ o h. (let there = opening_along v fan h.0 first.0 h.1 (λ f s. AllGood f s) opening h.2 all in good_not_refused h.0 h.3.0 o (there h.3.0 h.3.1.holds.0) h.3.2)),
+                  (fan, first.0, opening, (listing.0, listing.1, refl)),
+                ),
+              ))
+        ]
+
+      full_some : HasSome (λ o. (table_full v n otherwise after_reach n v) o)
+      full_some = elim listed [
+        | inl more ↦ (says status.Full (full_text n.table), inl (fan, first.0, opening, more, refl))
+        | inr l ↦ (let h = reach_some l.0 l.1 in (h.0, inr (fits l.0 l.1, h.1)))
+      ]
+
+      cones_some : HasSome (after_cones n v)
+      cones_some = some_of (table_wide v n) (table_full v n otherwise after_reach n v) table_wide_settles (λ p. full_some)
+
+    verdicts_some : HasSome (after_verdicts n v)
+    verdicts_some = elim (cones_or_wide v.degrees.k v.degrees.columns us.0 g faces) [
+      | inl r ↦ (let h = cones_some r.0 r.1 in (h.0, inr (none_wide r.0 r.1, h.1)))
+      | inr r ↦ (says status.Wide (wide_face_text r.0 r.1), inl (wide_some r.0 r.1 r.2))
+    ]
+
+  pub fan_some : HasSome (fan_of n v)
+  fan_some =
+      some_of (whole_stops v n) (after_whole n v) whole_settles (λ p.
+      let e = whole_ends p in
+      some_of (has_monomial v) (other_stops v n otherwise after_verdicts n v) (monomial_settles e) (λ q.
+      some_of (other_stops v n) (after_verdicts n v) others_settle (λ r. verdicts_some (all_run e r) (is_a_face e q))))
