@@ -283,12 +283,18 @@ module _ (v : InputValue) (n : Options) (g : IsGrading v.degrees.k v.degrees.col
         search_bad (y ∷ ys) falls reached = by (good_or_refused y (reached y (inl refl))) (search_bad ys falls.1 (λ s o. reached s (inr o))) where
           by : IsGoodSignature fan y ⊎ ((o : Outcome) × IsRefused fan y o) → ((s : Signature) → Member s ys → IsGoodSignature fan s) ⊎ FirstRefused ys → ((s : Signature) → Member s (y ∷ ys) → IsGoodSignature fan s) ⊎ FirstRefused (y ∷ ys)
           by (inr r) rest = inr (record {
-            sig = y; member = inl refl; outcome = r.0; refused = r.1;
+            sig = y;
+            member = inl refl;
+            outcome = r.0;
+            refused = r.1;
             before = λ s o. elim o [ inl e ↦ inr (self_up y s e) | inr later ↦ inr (less_up y s (falls.0 s later)) ];
           })
           by (inl good) (inl all) = inl (λ s o. elim o [ inl e ↦ subst (IsGoodSignature fan) e good | inr later ↦ all s later ])
           by (inl good) (inr f) = inr (record {
-            sig = f.sig; member = inr f.member; outcome = f.outcome; refused = f.refused;
+            sig = f.sig;
+            member = inr f.member;
+            outcome = f.outcome;
+            refused = f.refused;
             before = λ s o. elim o [ inl e ↦ inl (subst (IsGoodSignature fan) e good) | inr later ↦ f.before s later ];
           })
 
