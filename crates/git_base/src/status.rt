@@ -32,14 +32,12 @@ pub enum Status {
     WriteFault,
     /// There wasn't enough memory.
     NoMemory,
-    /// The command isn't built yet.
-    NotBuilt,
 }
 
 impl Status {
     ghost use Rattle.git_base.specs.Status.{code_of};
 
-    /// The code with which the process ends, from 0 to 14.
+    /// The code with which the process ends, from 0 to 13.
     pub fn code(self) -> u8
         ensures { result ≡ code_of self }
     {
@@ -58,7 +56,6 @@ impl Status {
             Status::ReadFault => 11,
             Status::WriteFault => 12,
             Status::NoMemory => 13,
-            Status::NotBuilt => 14,
         }
     }
 }

@@ -114,7 +114,6 @@ fn codes_stand_in_the_order_of_the_statuses(rt: HostRuntime) {
         (Status::ReadFault, 11),
         (Status::WriteFault, 12),
         (Status::NoMemory, 13),
-        (Status::NotBuilt, 14),
     ];
     for (status, code) in table {
         assert_eq!(rt; status.code(), code, "at {status:?}");

@@ -49,6 +49,13 @@ impl Sig {
         Ok(Sig { words })
     }
 
+    /// The signature of words that stand in a vector already. It takes no memory.
+    pub fn of_words(words: Vec<u64>) -> Sig
+        ensures { result ≡ words.items }
+    {
+        Sig { words }
+    }
+
     /// A signature equal to this one.
     pub fn copied(&self, alloc: Global) -> Result<Sig, NoMemory>
         ensures { IfOk result (λ s. s ≡ self.now) }
