@@ -2,7 +2,6 @@
 use Rattle.std.proofs.Common.{◌≡◌, ℕ, zero, suc, ◌<◌, List, [], ◌∷◌, length, get_or, refl, ap, subst, arith, inl, inr}
 use Rattle.git_lemmas.specs.Members.{Member}
 use Rattle.std.specs.Prelude.{All, Contains, Some, slice_get}
-use Rattle.std.proofs.lemmas.Option.{get_or_from_slice_get, slice_get_within}
 use Rattle.std.proofs.lemmas.List.Elements.{All-nil, All-cons}
 
 pub member_contains : {X : Type 0} (x : X) (vs : List X) → Member x vs → Contains vs x
@@ -27,9 +26,6 @@ member_all P [] each = All-nil P
 member_all P (v ∷ vs) each = All-cons P v vs (each v (inl refl)) (member_all P vs (λ x m. each x (inr m)))
 
 -- ---- by place
-pub place_contains : {X : Type 0} (xs : List X) (i : ℕ) (x : X) → slice_get xs i ≡ Some x → Contains xs x
-place_contains xs i x e = (i, slice_get_within xs i x e, get_or_from_slice_get xs i x x e)
-
 pub member_place : {X : Type 0} (x : X) (xs : List X) → Member x xs → (i : ℕ) × (slice_get xs i ≡ Some x)
 member_place x [] m = absurd m
 member_place x (y ∷ xs) (inl e) = (0, ap Some e)

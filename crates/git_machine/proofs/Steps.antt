@@ -39,13 +39,6 @@ test_written test places i p within j = ap test (written places i p within j) �
 test_pushed : (test : Option Place → Bool) (places : List Place) (p : Place) (j : ℕ) → test (slice_get (places ++ p ∷ []) j) ≡ put (λ j. test (slice_get places j)) (length places) (test (Some p)) j
 test_pushed test places p j = ap test (pushed places p j) ∙ put_then test (slice_get places) (length places) (Some p) j
 
-pub queued_within : (places : List Place) (i : ℕ) → is_queued (slice_get places i) ≡ true → i < length places
-queued_within places i is = by (slice_get places i) refl is
-  where
-    by : (o : Option Place) → slice_get places i ≡ o → is_queued o ≡ true → i < length places
-    by None e bad = absurd (cc)
-    by (Some p) e _ = slice_get_within places i p e
-
 module _ {G : Type 0} (k : Kept G) where
   abbrev pub took : ℕ → ℕ → Kept G
   took w i = record { graph = k.graph; listed = k.listed; places = set k.places i InHand; hands = set k.hands w (Some i) }

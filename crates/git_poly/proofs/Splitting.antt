@@ -1,6 +1,6 @@
 -- The product of a list is the sum of the products of its two parts.
-use Rattle.std.proofs.Common.{zero, suc, ℕ, ◌≤◌, ◌≡◌, refl, List, [], ◌∷◌, ◌++◌, take, drop, sym, subst, arith, append-nil}
-use Rattle.git_algebra.specs.Sums.{Sum, shift, product, Alike}
+use Rattle.std.proofs.Common.{zero, suc, ℕ, ◌≤◌, ◌≡◌, refl, List, [], ◌∷◌, ◌++◌, take, drop, sym, subst, arith}
+use Rattle.git_algebra.specs.Sums.{Sum, product, Alike}
 use Rattle.git_algebra.specs.Polynomials.{Proper, RanksBelow}
 use Rattle.git_algebra.specs.Operations.{greatest_degree}
 use Rattle.git_algebra.proofs.Congruence.{alike_trans, alike_sym, alike-append, alike_comm, alike_distrib_left}
@@ -52,11 +52,6 @@ product_of_parts ts n q front back whole h k w = record {
       (alike_sym (alike_distrib_left (sum_of (take n ts)) (sum_of (drop n ts)) q))));
   proper = w.proper;
 }
-
--- a product by a list of one term
-pub product_of_one : (ts : List Term) (x : Term) (q whole : Sum) → sum_of ts ≡ (x.mono, x.number) ∷ [] → IsForm whole (shift x.mono x.number q) → IsForm whole (product (sum_of ts) q)
-product_of_one ts x q whole e h =
-    subst (λ (s : Sum). IsForm whole (product s q)) (sym e) (subst (λ (s : Sum). IsForm whole s) (sym (append-nil (shift x.mono x.number q))) h)
 
 -- a product by the factors in the other order
 pub product_turned : (whole p q : Sum) → IsForm whole (product q p) → IsForm whole (product p q)

@@ -41,16 +41,6 @@ least_less seen u v least large less = record {
   ];
 }
 
-pub least_kept : (seen : List Vector) (u v : Vector) → IsLeastLarge seen u → (Precedes v u → ⊥) → IsLeastLarge (seen ++ v ∷ []) u
-least_kept seen u v least not_less = record {
-  member = front_in seen v u least.member;
-  large = least.large;
-  least = λ x c l h. elim (in_end seen v x c) [
-    | inl d ↦ least.least x d l h
-    | inr e ↦ not_less (subst (λ (y : Vector). Precedes y u) (sym e) h)
-  ];
-}
-
 skip : (seen : List Vector) (v : Vector) (o : Option Vector) → IsLeastOf seen o → AreWithin (2 ^ 40) v → IsLeastOf (seen ++ v ∷ []) o
 skip seen v None none small = λ u c l. elim (in_end seen v u c) [ inl d ↦ none u d l | inr e ↦ l (subst (AreWithin (2 ^ 40)) e small) ]
 skip seen v (Some u) least small = record {

@@ -28,9 +28,6 @@ use Rattle.git_stages.proofs.Replaced.{part_once_by}
 use Rattle.git_stages.specs.Prepared.{ArePrimitiveParts, IsSortedSet, IsPrepared, IsAlong}
 use Rattle.git_stages.specs.Short.{IsShort}
 
-pub gather_none : ArePrimitiveParts [] []
-gather_none = record { primitive = λ x m. absurd m; from = λ x m. absurd m; each = λ x a m p l. absurd m }
-
 -- one that is 0 leaves nothing
 pub gather_skip : (k : ℕ) (given out : List Vector) (i : ℕ) (d w : Vector) → i < length given → length (get_or given i d) ≡ k → IsPrimitivePart (get_or given i d) w → w ≡ zero_vector k
     → ArePrimitiveParts (take i given) out → ArePrimitiveParts (take (i + 1) given) out
