@@ -1,20 +1,18 @@
 -- A sorted list of vectors is known by its members.
-use Rattle.std.proofs.Common.{◌≡◌, ◌∙◌, ◌∷◌, [], AllPairs, List, arith, inl, inr, refl, subst, suc, sym, ℕ}
+use Rattle.std.proofs.Common.{◌≡◌, AllPairs, List, ℕ}
 use Rattle.std.specs.Cmp.{IsTotalOrder, int_cmp_total}
 use Rattle.std.specs.Cmp.Lexicographic.{lists_total, slice_cmp}
-use Rattle.std.specs.Ordering.{int_cmp, ordering_reverse}
-use Rattle.std.specs.declared.cmp.Ordering.{Ordering}
-use Rattle.std.specs.declared.cmp.Ordering.TheVariants.{Equal, Greater, Less}
+use Rattle.std.specs.Ordering.{int_cmp}
 use Rattle.git_lemmas.specs.Members.{Member}
 use Rattle.git_lemmas.proofs.Members.{contains_member, member_contains}
 use Rattle.git_defs.specs.Cones.{AreRays}
 use Rattle.git_defs.specs.Vectors.{Precedes, Vector}
 use Rattle.git_lemmas.proofs.Sorting.{not_self, Ascends, once, ascends_of_pairs}
 
-vectors_total : IsTotalOrder (slice_cmp int_cmp)
+pub vectors_total : IsTotalOrder (slice_cmp int_cmp)
 vectors_total = lists_total int_cmp_total
 
-irreflexive : (v : Vector) → Precedes v v → ⊥
+pub irreflexive : (v : Vector) → Precedes v v → ⊥
 irreflexive v h = not_self (slice_cmp int_cmp v v) (vectors_total.antisymm v v) h
 
 -- ---- lists of vectors in order

@@ -2,13 +2,14 @@
 use Rattle.std.proofs.Common.{◌≡◌, ◌⊎◌, ℕ, zero, suc, ◌+◌, ◌*◌, ◌<◌, ◌≤◌, ◌^◌, List, [], ◌∷◌, length, refl, inl, inr, take, get_or, sym, ◌∙◌, ap, subst, arith, SFits, to_z, of_z, lit<, length-take}
 use Rattle.std.proofs.lemmas.List.Elements.{All-more, All-nil, All-cons}
 use Rattle.std.proofs.lemmas.List.{get_or-take}
-use Rattle.std.proofs.Math.IntN.{ℤ, pos, negsuc, ◌+ℤ◌, ◌*ℤ◌, neg_ℤ, *ℤ_comm, +ℤ_idr, pos-*ℤ-pos}
+use Rattle.std.proofs.Math.IntN.{ℤ, pos, negsuc, ◌*ℤ◌, pos-*ℤ-pos}
 use Rattle.std.specs.Prelude.{All, ◌<ℤ◌, replicate}
 use Rattle.std.specs.Int.{◌∣◌, IsGcd, w128}
-use Rattle.std.specs.Int.RustNames.{unsigned_abs, int_div, int_rem}
-use Rattle.std.proofs.lemmas.Nat.Gcd.{dvd_trans, mod-eq-zero_of_dvd, dvd-zero, le_of_dvd}
+use Rattle.std.specs.Int.RustNames.{unsigned_abs, int_div}
+use Rattle.std.proofs.lemmas.Nat.Gcd.{dvd_trans, dvd-zero, le_of_dvd}
 use Rattle.std.proofs.Math.Nat.{eq-zero_of_zero-dvd, eq-one_of_dvd-one, dvd-mul_right, dvd_of_mul-dvd-mul_left}
-use Rattle.std.proofs.lemmas.Int.{ints, quot-rem, quot_is, quot_fits, to_z_pos, fits_signed_from_abs, unsigned_abs-mul}
+use Rattle.std.proofs.lemmas.Int.{ints, quot_is, quot_fits, to_z_pos, fits_signed_from_abs, unsigned_abs-mul}
+use Rattle.git_lemmas.proofs.Integers.{zero_of_size}
 use Rattle.git_defs.specs.Vectors.{Vector, scale, IsPrimitive}
 use Rattle.git_defs.proofs.Sums.{scale-scale, scale-one}
 use Rattle.git_ints.specs.Padded.{AreWithin}
@@ -41,10 +42,7 @@ machine_quotient a n fits some small divides =
 -- ---- a content that is 0, and the size of one that isn't
 all_zero : (v : List ℤ) → All (λ z. 0 ∣ unsigned_abs z) v → v ≡ replicate (length v) (pos 0)
 all_zero [] h = refl
-all_zero (z ∷ v) h = λ i. zero_of z (eq-zero_of_zero-dvd (h 0 (pos 0) (omega arith))) i ∷ all_zero v (λ k d lt. h (suc k) d (omega arith)) i where
-  zero_of : (z : ℤ) → unsigned_abs z ≡ 0 → z ≡ pos 0
-  zero_of (pos n) e = ap pos e
-  zero_of (negsuc n) e = absurd (omega arith)
+all_zero (z ∷ v) h = λ i. zero_of_size z (eq-zero_of_zero-dvd (h 0 (pos 0) (omega arith))) i ∷ all_zero v (λ k d lt. h (suc k) d (omega arith)) i
 
 pub zero_content : (v : List ℤ) (g : ℕ) → IsContent v g → g ≡ 0 → v ≡ replicate (length v) (pos 0)
 zero_content v g c e = all_zero v (subst (λ (n : ℕ). All (λ z. n ∣ unsigned_abs z) v) e c.divides)

@@ -1,10 +1,10 @@
 -- Sizes of products and sums, and numbers that fit 128 bits.
-use Rattle.std.proofs.Common.{◌≡◌, ◌⊎◌, ℕ, ◌+◌, ◌*◌, ◌^◌, ◌<◌, ◌≤◌, ◌∙◌, List, length, get_or, sym, subst, arith, inl, inr, lit<, lit≤, SFits, to_z, of_z}
+use Rattle.std.proofs.Common.{◌≡◌, ◌⊎◌, ℕ, ◌+◌, ◌*◌, ◌^◌, ◌<◌, ◌≤◌, List, length, get_or, sym, subst, arith, inl, inr, lit<, lit≤, SFits, to_z, of_z}
 use Rattle.std.specs.Int.{w128}
 use Rattle.std.proofs.Math.IntN.{ℤ, pos, ◌+ℤ◌, ◌*ℤ◌}
 use Rattle.std.proofs.Math.Nat.{mul-le-mul}
 use Rattle.std.specs.Int.RustNames.{unsigned_abs}
-use Rattle.std.proofs.lemmas.Int.{ints, to_z-of_z, unsigned_abs-mul, fits_signed_from_abs}
+use Rattle.std.proofs.lemmas.Int.{to_z-of_z, fits_signed_from_abs}
 use Rattle.git_ints.specs.Padded.{AreWithin}
 use Rattle.git_lemmas.proofs.Integers.{abs_add, abs_mul}
 
@@ -14,6 +14,9 @@ fits a h = fits_signed_from_abs w128 a (let big : 2 ^ 126 < 2 ^ 127 = lit< tt in
 
 pub kept : (a : ℤ) → unsigned_abs a ≤ 2 ^ 126 → to_z w128 (of_z w128 a) ≡ a
 kept a h = to_z-of_z w128 a (fits a h)
+
+pub within_more : (n m : ℕ) (v : List ℤ) → n ≤ m → AreWithin n v → AreWithin m v
+within_more n m v h a = λ i d g. omega (arith, a i d g, h)
 
 -- the products of an inner product
 pub term_within : (u v : List ℤ) (i : ℕ) → ((AreWithin (2 ^ 40) u × AreWithin (2 ^ 80) v) ⊎ (AreWithin (2 ^ 80) u × AreWithin (2 ^ 40) v)) → i < length u → i < length v

@@ -119,9 +119,9 @@ square_zero (pos (suc n)) = inr (omega (arith, ints, product_is (pos (suc n)) (p
 square_zero (negsuc n) = inr (omega (arith, ints, product_is (negsuc n) (negsuc n)))
 
 -- ---- sizes
-pub pos_up : (z : ℤ) → pos 0 ≤ℤ z → pos (up z) ≡ z
-pos_up (pos n) h = refl
-pos_up (negsuc n) h = absurd (omega (arith, ints))
+pub zero_of_size : (z : ℤ) → unsigned_abs z ≡ 0 → z ≡ pos 0
+zero_of_size (pos n) e = ap pos e
+zero_of_size (negsuc n) e = absurd (omega (arith, e))
 
 pub abs_mul : (a b : ℤ) (m n : ℕ) → unsigned_abs a ≤ m → unsigned_abs b ≤ n → unsigned_abs (a *ℤ b) ≤ m * n
 abs_mul a b m n p q = omega (arith, unsigned_abs-mul a b, mul-le-mul p q)

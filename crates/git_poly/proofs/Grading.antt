@@ -3,7 +3,7 @@ use Rattle.std.proofs.Common.{zero, suc, ℕ, ◌+◌, ◌<◌, ◌≤◌, ◌�
 use Rattle.std.specs.Prelude.{map, slice_get}
 use Rattle.std.proofs.Math.IntN.{pos, ◌+ℤ◌, ◌*ℤ◌}
 use Rattle.std.proofs.lemmas.Int.{ints}
-use Rattle.git_defs.specs.Vectors.{Vector, zero_vector, scale, plus, combination}
+use Rattle.git_defs.specs.Vectors.{Vector, scale, plus, combination}
 use Rattle.git_defs.proofs.Lengths.{OfLength, first_of_length, rest_of_length}
 use Rattle.git_defs.proofs.Linear.{length-scale}
 use Rattle.git_defs.proofs.Sums.{plus-zero, zero-plus}
@@ -43,11 +43,6 @@ all_columns k (x ∷ xs) [] (suc i) h = refl
 all_columns k (x ∷ xs) (v ∷ vs) zero h = absurd (omega arith)
 all_columns k (x ∷ xs) (v ∷ vs) (suc i) h = ap (plus (scale (pos x) v)) (all_columns k xs vs i (omega arith))
 
-pub zero_within : (k n : ℕ) → AreWithin n (zero_vector k)
-zero_within zero n i d h = absurd (omega arith)
-zero_within (suc k) n zero d h = omega (arith, ints)
-zero_within (suc k) n (suc i) d h = zero_within k n i d (omega arith)
-
 pub sum_within : (u v : Vector) (c n : ℕ) → AreWithin n u → AreWithin 1000 v → c ≤ 64 → AreWithin (n + 64000) (plus u (scale (pos c) v))
 sum_within [] [] c n a b h i d g = absurd (omega arith)
 sum_within [] (y ∷ v) c n a b h i d g = absurd (omega arith)
@@ -56,9 +51,6 @@ sum_within (x ∷ u) (y ∷ v) c n a b h zero d g =
     abs_add x (pos c *ℤ y) n 64000 (a 0 d (omega arith)) (abs_mul (pos c) y 64 1000 (omega (arith, ints, h)) (b 0 d (omega arith)))
 sum_within (x ∷ u) (y ∷ v) c n a b h (suc i) d g =
     sum_within u v c n (λ j e l. a (suc j) e (omega arith)) (λ j e l. b (suc j) e (omega arith)) h i d (omega arith)
-
-pub within_more : (n m : ℕ) (v : Vector) → n ≤ m → AreWithin n v → AreWithin m v
-within_more n m v h a = λ i d g. omega (arith, a i d g, h)
 
 pub column_at : (vs : List Vector) (i : ℕ) (v : Vector) → slice_get vs i ≡ Some v → get_or vs i [] ≡ v
 column_at [] i v e = cc e

@@ -1,11 +1,12 @@
 -- A list of inequalities of full rank is wide first at some stage, or never.
-use Rattle.std.proofs.Common.{◌≡◌, ◌⊎◌, ℕ, zero, suc, ◌+◌, ◌-◌, ◌<◌, ◌≤◌, ◌^◌, List, [], ◌∷◌, ◌++◌, length, take, append-nil, append_assoc, refl, sym, ap, subst, arith, inl, inr}
+use Rattle.std.proofs.Common.{◌≡◌, ◌⊎◌, ℕ, zero, suc, ◌+◌, ◌-◌, ◌<◌, ◌≤◌, ◌^◌, List, [], ◌∷◌, ◌++◌, length, take, append-nil, append_assoc, refl, sym, subst, arith, inl, inr}
 use Rattle.std.proofs.Math.IntN.{ℤ, pos}
 use Rattle.std.specs.Prelude.{Contains}
 use Rattle.std.specs.Cmp.Lexicographic.{slice_cmp}
 use Rattle.std.specs.Ordering.{int_cmp}
 use Rattle.std.specs.Int.RustNames.{unsigned_abs}
 use Rattle.std.proofs.lemmas.List.Elements.{All-nil, All-cons}
+use Rattle.std.proofs.Math.Nat.{eq-or-lt_of_le}
 use Rattle.git_defs.specs.Vectors.{Vector, HasRank, AreIndependent, Precedes, units, AllOfLength}
 use Rattle.git_defs.proofs.Closed.{cone_has}
 use Rattle.git_lemmas.specs.Members.{Member}
@@ -34,7 +35,7 @@ use Rattle.git_stages.proofs.Shorts.{within_or_not}
 use Rattle.git_stages.proofs.Splits.{of_length_end, split_exists, run_end}
 
 -- ---- the base of a split
-split_independent : (k : ℕ) (taken left base rest : List Vector) → IsSplit k taken left base rest → AreIndependent k taken → AreIndependent k base
+pub split_independent : (k : ℕ) (taken left base rest : List Vector) → IsSplit k taken left base rest → AreIndependent k taken → AreIndependent k base
 split_independent k taken [] base rest s free = subst (AreIndependent k) (sym s.0) free
 split_independent k taken (b ∷ left) base rest (inl s) free = split_independent k (taken ++ b ∷ []) left base rest s.1 s.0
 split_independent k taken (b ∷ left) base rest (inr s) free = split_independent k taken left base s.1 s.3 free
@@ -227,11 +228,6 @@ record FirstAt (k : ℕ) (base rest : List Vector) : Type 0 where
 abbrev Sought : ℕ → List Vector → List Vector → ℕ → Type 0
 Sought k base rest n = FirstAt k base rest ⊎ IsNarrowTo k base rest n
 
-le_or_next : (i n : ℕ) → i ≤ suc n → (i ≤ n) ⊎ (i ≡ suc n)
-le_or_next zero n h = inl (omega arith)
-le_or_next (suc i) zero h = elim (within_or_not (suc i) zero) [ inl g ↦ inl g | inr f ↦ inr (omega (arith, h)) ]
-le_or_next (suc i) (suc n) h = elim (le_or_next i n (omega (arith, h))) [ inl g ↦ inl (omega (arith, g)) | inr e ↦ inr (ap suc e) ]
-
 seek : (k : ℕ) (base rest : List Vector) (n : ℕ) → OfLength k base → AreIndependent k base → length base ≡ k → n ≤ k + length rest → Sought k base rest n
 seek k base rest zero have free full few = inr (λ i p q. absurd (omega (arith, p, q)))
 seek k base rest (suc n) have free full few = elim (seek k base rest n have free full (omega (arith, few))) [
@@ -248,9 +244,9 @@ seek k base rest (suc n) have free full few = elim (seek k base rest n have free
           evidence = (w.1).1;
           first = λ i us h. narrow_first k base rest n to i us (omega (arith, h));
         })
-        | inr narrow ↦ inr (λ i p q. elim (le_or_next i n q) [
-          | inl h ↦ to i p h
-          | inr e ↦ subst (IsNarrowAt k base rest) (sym e) (record { list = s.0; stage = s.1; narrow = narrow })
+        | inr narrow ↦ inr (λ i p q. elim (eq-or-lt_of_le q) [
+          | inl e ↦ subst (IsNarrowAt k base rest) (sym e) (record { list = s.0; stage = s.1; narrow = narrow })
+          | inr h ↦ to i p (omega (arith, h))
         ])
       ])
 ]

@@ -1,8 +1,7 @@
 -- Each list has a sorted one with its members.
 use Rattle.std.proofs.Common.{◌≡◌, ◌⊎◌, ℕ, List, [], ◌∷◌, length, refl, sym, ◌∙◌, ap, subst, arith, inl, inr, suc, ◌≤◌}
 use Rattle.std.specs.Prelude.{AllPairs}
-use Rattle.std.specs.Cmp.{IsTotalOrder, int_cmp_total}
-use Rattle.std.specs.Cmp.Lexicographic.{lists_total, slice_cmp}
+use Rattle.std.specs.Cmp.Lexicographic.{slice_cmp}
 use Rattle.std.specs.Ordering.{int_cmp, ordering_reverse, is_eq}
 use Rattle.std.specs.declared.cmp.Ordering.{Ordering}
 use Rattle.std.specs.declared.cmp.Ordering.TheVariants.{Equal, Greater, Less}
@@ -11,20 +10,9 @@ use Rattle.git_lemmas.specs.Members.{Member}
 use Rattle.git_lemmas.proofs.Members.{member_all}
 use Rattle.std.proofs.lemmas.List.Kept.{AllPairs-cons}
 use Rattle.std.specs.Cmp.Rules.{signed_items}
-use Rattle.git_geometry.proofs.Sorted.{Ascending}
+pub use Rattle.git_geometry.proofs.Sorted.{Ascending, vectors_total, irreflexive}
 use Rattle.git_geometry.specs.Stages.{Exact}
 use Rattle.git_ints.specs.Order.{vectors_ties}
-
-pub vectors_total : IsTotalOrder (slice_cmp int_cmp)
-vectors_total = lists_total int_cmp_total
-
-not_self : (o : Ordering) → o ≡ ordering_reverse o → o ≡ Less → ⊥
-not_self Less e h = cc e
-not_self Equal e h = cc h
-not_self Greater e h = cc h
-
-pub irreflexive : (v : Vector) → Precedes v v → ⊥
-irreflexive v h = not_self (slice_cmp int_cmp v v) (vectors_total.antisymm v v) h
 
 -- ---- each list has a sorted one
 record Put (x : Vector) (vs : List Vector) : Type 0 where

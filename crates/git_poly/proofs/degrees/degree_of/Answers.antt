@@ -11,7 +11,8 @@ use Rattle.git_defs.proofs.Sums.{scale-one}
 use Rattle.git_ints.specs.Padded.{AreWithin}
 use Rattle.git_ints.proofs.Sizes.{kept}
 use Rattle.git_poly.specs.Degrees.{degree_under}
-use Rattle.git_poly.proofs.Grading.{one_more_column, all_columns, sum_within, within_more, column_at}
+use Rattle.git_ints.proofs.Sizes.{within_more}
+use Rattle.git_poly.proofs.Grading.{one_more_column, all_columns, sum_within, column_at}
 use Rattle.git_poly.proofs.degrees.degree_of.Goals as goal
 
 pub combine-sum-requires-clause-lengths : goal.combine-sum-requires-clause-lengths
