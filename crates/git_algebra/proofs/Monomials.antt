@@ -1,12 +1,12 @@
 -- Laws of monomials, each by places.
-use Rattle.std.proofs.Common.{suc, ◌≡◌, ◌≢◌, ℕ, ◌+◌, ◌-◌, ◌*◌, ◌<◌, ◌≤◌, List, [], ◌∷◌, max, refl, sym, ap, ◌∙◌, arith, inl, inr, eq-eqb}
+use Rattle.std.proofs.Common.{suc, ◌≡◌, ◌≢◌, ℕ, ◌+◌, ◌-◌, ◌*◌, ◌<◌, ◌≤◌, List, [], ◌∷◌, length, get_or, max, refl, sym, ap, ◌∙◌, arith, inl, inr, eq-eqb}
 use Rattle.std.specs.Prelude.{◌↔◌, ◌==◌, if◌then◌else◌}
-use Rattle.std.specs.List.{range_with_len, sum_by}
+use Rattle.std.specs.List.{range_with_len, sum, sum_by}
 use Rattle.std.proofs.lemmas.List.{ext_get_or, get_or_past}
 use Rattle.std.proofs.lemmas.List.FromFn.{get_or-map-range_with_len}
 use Rattle.std.proofs.lemmas.List.Sums.{sum-map, sum_by-cons, sum_by-le-sum_by}
 use Rattle.std.proofs.lemmas.Bool.{cases_lt, ne_eqb}
-use Rattle.git_algebra.specs.Exponents.{Exponents, same_list, exponent, exponents_by, one, times, power, variable_power, quotient, lcm, degree, Divides}
+use Rattle.git_algebra.specs.Exponents.{Exponents, same_list, exponent, exponents_by, exponents_of, one, times, power, variable_power, quotient, lcm, degree, Divides}
 
 pub exponent_past : (a : Exponents) (i : ℕ) → 17 ≤ i → exponent a i ≡ 0
 exponent_past a i past = get_or_past a.list i 0 (omega (arith, a.long))
@@ -18,6 +18,19 @@ same_exponents a b each = same_list a b (ext_get_or 0 a.list b.list (a.long ∙ 
 pub exponent-by : (f : ℕ → ℕ) (i : ℕ) → i < 17 → exponent (exponents_by f) i ≡ f i
 unfolding exponents_by
 exponent-by f i h = get_or-map-range_with_len f 0 17 i i 0 h (omega arith)
+
+-- the monomial of a list of seventeen exponents
+pub exponent-of : (xs : List ℕ) (i : ℕ) → i < 17 → exponent (exponents_of xs) i ≡ get_or xs i 0
+unfolding exponents_of
+exponent-of xs i h = exponent-by (λ k. get_or xs k 0) i h
+
+-- seventeen exponents are kept as they are
+pub list-of : (xs : List ℕ) → length xs ≡ 17 → (exponents_of xs).list ≡ xs
+list-of xs long = ext_get_or 0 (exponents_of xs).list xs ((exponents_of xs).long ∙ sym long) (λ i h. exponent-of xs i (omega (arith, (exponents_of xs).long)))
+
+-- exponents and their sum come back from their monomial
+pub fields_from_value : {F : Type 0} (made : List ℕ → ℕ → F) (xs : List ℕ) (d : ℕ) → length xs ≡ 17 → d ≡ sum xs → made (exponents_of xs).list (sum (exponents_of xs).list) ≡ made xs d
+fields_from_value made xs d long e = λ i. made (list-of xs long i) ((ap sum (list-of xs long) ∙ sym e) i)
 
 -- the same at each place, where the function is 0 past the last one
 exponent-by_all : (f : ℕ → ℕ) (i : ℕ) → (17 ≤ i → f i ≡ 0) → exponent (exponents_by f) i ≡ f i
@@ -75,17 +88,6 @@ quotient-times a b = same_exponents _ _ (λ i _. omega (arith, exponent-quotient
 
 pub times_cancel : (a b c : Exponents) → times a b ≡ times a c → b ≡ c
 times_cancel a b c e = sym (quotient-times a b) ∙ ap (λ m. quotient m a) e ∙ quotient-times a c
-
-pub times_exchange : (a b c d : Exponents) → times (times a b) (times c d) ≡ times (times a c) (times b d)
-times_exchange a b c d = same_exponents _ _ (λ i _. omega (
-  arith,
-  exponent-times (times a b) (times c d) i,
-  exponent-times a b i,
-  exponent-times c d i,
-  exponent-times (times a c) (times b d) i,
-  exponent-times a c i,
-  exponent-times b d i,
-))
 
 -- a monomial divides another where it does at each place
 pub divides_at_places : (a b : Exponents) → ((i : ℕ) → i < 17 → exponent a i ≤ exponent b i) → times a (quotient b a) ≡ b

@@ -1,5 +1,5 @@
 -- The form of a sum has the sum's values, and coefficients fix a polynomial.
-use Rattle.std.proofs.Common.{ℕ, zero, suc, ◌+◌, ◌*◌, ◌%◌, ◌<◌, ◌≤◌, ◌≡◌, refl, [], ◌∷◌, sym, ◌∙◌, ap, subst, arith, inl, inr}
+use Rattle.std.proofs.Common.{ℕ, zero, suc, ◌+◌, ◌*◌, ◌%◌, ◌<◌, ◌≤◌, ◌≡◌, refl, [], ◌∷◌, sym, ◌∙◌, ap, arith, inl, inr}
 use Rattle.std.proofs.lemmas.Bool.{cases_eq}
 use Rattle.std.proofs.Math.Nat.{mod-mod}
 use Rattle.std.specs.declared.cmp.Ordering.{Ordering}
@@ -98,13 +98,6 @@ normal_alike s = alike-normal_list s
 
 pub normal_of : (p : Polynomial) → normal p.terms ≡ p
 normal_of p = same_from_alike _ p (normal_alike p.terms)
-
--- sums with one coefficient at each monomial have the same values
-pub alike_from_coefficients : (s t : Sum) → ((m : Exponents) → Mod (coefficient s m) (coefficient t m)) → Alike s t
-alike_from_coefficients s t same =
-    let e : normal s ≡ normal t = same_polynomial (normal s) (normal t) (λ m.
-    mod_trans ((normal_alike s).values (at_monomial m)) (mod_trans (same m) (mod_sym ((normal_alike t).values (at_monomial m))))) in
-    alike_trans (alike_sym (normal_alike s)) (subst (λ (p : Polynomial). Alike p.terms t) (sym e) (normal_alike t))
 
 -- a proper list is its own form
 pub terms-normal : (s : Sum) → Proper s → (normal s).terms ≡ s

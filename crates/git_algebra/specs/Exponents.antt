@@ -29,6 +29,10 @@ exponent a i = slice_index a.list i
 unfoldable pub exponents_by : (ℕ → ℕ) → Exponents
 exponents_by f = record { list = map f (range_with_len 0 17); long = length-map-range_with_len f 0 17 }
 
+-- the monomial of a list of seventeen exponents
+unfoldable pub exponents_of : List ℕ → Exponents
+exponents_of xs = exponents_by (λ i. slice_index xs i)
+
 -- the monomial 1
 unfoldable pub one : Exponents
 one = exponents_by (λ _. 0)

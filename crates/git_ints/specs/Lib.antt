@@ -1,4 +1,3 @@
 pub use Rattle.git_defs.specs.Vectors
 pub mod Padded
-pub mod Order
 pub mod Content

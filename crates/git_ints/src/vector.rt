@@ -9,7 +9,7 @@ ghost use Rattle.std.specs.Cmp.Rules.{comparing};
 ghost use Rattle.std.specs.Cmp.Lexicographic.{slice_cmp, pointwise, lists_total};
 ghost use Rattle.std.specs.Ordering.{int_cmp, int_eq, as_partial_cmp};
 ghost use Rattle.std.proofs.Common.{rules};
-ghost use Rattle.git_ints.specs.Order.{vectors_ties};
+ghost use Rattle.git_lemmas.proofs.Order.{vectors_ties};
 
 use crate::arithmetic::{blend, product, sum};
 use crate::content::{content, quotient};
@@ -27,7 +27,8 @@ pub struct IVec {
 impl Model for IVec {
     ghost use Rattle.std.specs.Prelude.{◌≡◌, ◌≤◌, List, ℤ, pos, length, take, drop, replicate, ◌-◌};
     ghost use Rattle.std.proofs.Common.{sym};
-    ghost use Rattle.git_ints.specs.Padded.{padded, padded_size};
+    ghost use Rattle.git_ints.specs.Padded.{padded};
+    ghost use Rattle.git_lemmas.proofs.Padding.{padded_front};
     ghost use Rattle.git_limits.specs.declared.TheConstants.{ROWS};
 
     ghost Value = { List ℤ };
@@ -38,7 +39,7 @@ impl Model for IVec {
 
     ghost inverse = { λ v. record { entries = padded v; len = length v } };
 
-    ghost inverse_ok = { λ a h. λ i. record { entries = sym h.2 i; len = padded_size a.entries a.len h.1 h.2 i } };
+    ghost inverse_ok = { λ a h. λ i. record { entries = sym h.2 i; len = padded_front (pos 0) ROWS a.len a.entries h.1 h.2 i } };
 }
 
 impl IVec {

@@ -6,9 +6,8 @@ use Rattle.std.proofs.lemmas.Bool.{cases_eq, ne_eqb}
 use Rattle.std.proofs.lemmas.List.{get_or-replicate}
 use Rattle.std.specs.List.{sum}
 use Rattle.std.proofs.lemmas.List.Sums.{sum_by-cons, sum_by-set}
-use Rattle.git_algebra.specs.Exponents.{Exponents, exponent, exponents_by, variable_power, times, quotient, lcm, degree, Divides}
-use Rattle.git_algebra.proofs.Monomials.{same_exponents, exponent-by, exponent-times, exponent-quotient, exponent-lcm, divides_at_places, places_of_divides, times-quotient, degree-times, degree-lcm_le}
-use Rattle.git_mono.specs.Places.{exponents_of, exponent-of, list-of}
+use Rattle.git_algebra.specs.Exponents.{Exponents, exponent, exponents_by, exponents_of, variable_power, times, quotient, lcm, degree, Divides}
+use Rattle.git_algebra.proofs.Monomials.{same_exponents, exponent-by, exponent-of, list-of, exponent-times, exponent-quotient, exponent-lcm, divides_at_places, places_of_divides, times-quotient, degree-times, degree-lcm_le}
 
 pub list_is : (xs : List ℕ) (m : Exponents) → exponents_of xs ≡ m → length xs ≡ 17 → m.list ≡ xs
 list_is xs m e long = ap (λ (a : Exponents). a.list) (sym e) ∙ list-of xs long

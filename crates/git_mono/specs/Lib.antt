@@ -1,3 +1,2 @@
 pub use Rattle.git_algebra.specs.Exponents
 pub use Rattle.git_algebra.specs.Order
-pub mod Places

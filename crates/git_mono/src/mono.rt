@@ -18,8 +18,8 @@ pub struct Mono {
 impl Model for Mono {
     ghost use Rattle.std.specs.Prelude.{◌≡◌, ◌≤◌, length};
     ghost use Rattle.std.specs.List.{sum};
-    ghost use Rattle.git_algebra.specs.Exponents.{Exponents, exponents_code};
-    ghost use Rattle.git_mono.specs.Places.{exponents_of, fields_from_value};
+    ghost use Rattle.git_algebra.specs.Exponents.{Exponents, exponents_code, exponents_of};
+    ghost use Rattle.git_algebra.proofs.Monomials.{fields_from_value};
 
     ghost Value = { Exponents };
 

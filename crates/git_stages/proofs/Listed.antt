@@ -12,7 +12,7 @@ use Rattle.std.proofs.lemmas.List.Kept.{AllPairs-cons}
 use Rattle.std.specs.Cmp.Rules.{signed_items}
 pub use Rattle.git_geometry.proofs.Sorted.{Ascending, vectors_total, irreflexive}
 use Rattle.git_geometry.specs.Stages.{Exact}
-use Rattle.git_ints.specs.Order.{vectors_ties}
+use Rattle.git_lemmas.proofs.Order.{vectors_ties}
 
 -- ---- each list has a sorted one
 record Put (x : Vector) (vs : List Vector) : Type 0 where

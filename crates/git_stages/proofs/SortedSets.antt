@@ -13,7 +13,7 @@ use Rattle.std.proofs.lemmas.List.Kept.{IsStrictlySortedBy-dedup, Contains-dedup
 use Rattle.std.proofs.lemmas.List.Elements.{All-nil, All-cons}
 use Rattle.std.proofs.lemmas.List.Sorted.{Contains-permutation, IsPermutation-sym}
 use Rattle.git_defs.specs.Vectors.{Vector, Precedes}
-use Rattle.git_ints.specs.Order.{vectors_ties}
+use Rattle.git_lemmas.proofs.Order.{vectors_ties}
 use Rattle.git_stages.specs.Prepared.{IsSortedSet}
 
 abbrev strictly : List Vector → Type 0

@@ -1,7 +1,7 @@
 use Rattle.std.proofs.Common.{rules, refl, arith, ◌≡◌, ◌<◌, max, get_or}
 use Rattle.std.specs.List.{sum}
 use Rattle.git_algebra.specs.Exponents.{lcm}
-use Rattle.git_mono.specs.Places.{exponents_of}
+use Rattle.git_algebra.specs.Exponents.{exponents_of}
 use Rattle.git_mono.proofs.Fields.{Held, filled_more, degree_is, lcm_is, sum-lcm}
 use Rattle.git_mono.proofs.mono.Mono.lcm.Goals as goal
 

@@ -1,6 +1,6 @@
 use Rattle.std.proofs.Common.{refl}
 use Rattle.git_algebra.specs.Exponents.{same_list, one, exponents_by}
-use Rattle.git_mono.specs.Places.{exponents_of}
+use Rattle.git_algebra.specs.Exponents.{exponents_of}
 use Rattle.git_mono.proofs.mono.Mono.one.Goals as goal
 
 pub returns : goal.returns

@@ -1,6 +1,6 @@
 use Rattle.std.proofs.Common.{refl, arith, ◌≡◌, ◌-◌, get_or}
 use Rattle.git_algebra.specs.Exponents.{quotient}
-use Rattle.git_mono.specs.Places.{exponents_of}
+use Rattle.git_algebra.specs.Exponents.{exponents_of}
 use Rattle.git_mono.proofs.Fields.{Held, filled_more, degree_is, quotient_is, places_of, sum-quotient}
 use Rattle.git_mono.proofs.mono.Mono.quotient.Goals as goal
 

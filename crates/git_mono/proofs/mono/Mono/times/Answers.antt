@@ -1,7 +1,7 @@
 use Rattle.std.proofs.Common.{rules, refl, arith, ◌≡◌, ◌+◌, get_or}
 use Rattle.git_algebra.specs.Exponents.{times}
 use Rattle.git_algebra.proofs.Monomials.{degree-times}
-use Rattle.git_mono.specs.Places.{exponents_of}
+use Rattle.git_algebra.specs.Exponents.{exponents_of}
 use Rattle.git_mono.proofs.Fields.{Held, filled_more, degree_is, times_is, get_or-le-sum}
 use Rattle.git_mono.proofs.mono.Mono.times.Goals as goal
 
