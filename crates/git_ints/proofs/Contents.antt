@@ -1,13 +1,13 @@
 -- Divisors of all entries, one entry more; an entry over a divisor.
 use Rattle.std.proofs.Common.{◌≡◌, ◌⊎◌, ℕ, zero, suc, ◌+◌, ◌*◌, ◌<◌, ◌≤◌, ◌^◌, List, [], ◌∷◌, length, refl, inl, inr, take, get_or, sym, ◌∙◌, ap, subst, arith, SFits, to_z, of_z, lit<, length-take}
-use Rattle.std.proofs.lemmas.List.Elements.{All-more, All-nil, All-cons}
+use Rattle.std.proofs.lemmas.List.Elements.{All-take, All-more, All-nil, All-cons}
 use Rattle.std.proofs.lemmas.List.{get_or-take}
 use Rattle.std.proofs.Math.IntN.{ℤ, pos, negsuc, ◌*ℤ◌, pos-*ℤ-pos}
 use Rattle.std.specs.Prelude.{All, ◌<ℤ◌, replicate}
 use Rattle.std.specs.Int.{◌∣◌, IsGcd, w128}
 use Rattle.std.specs.Int.RustNames.{unsigned_abs, int_div}
 use Rattle.std.proofs.lemmas.Nat.Gcd.{dvd_trans, dvd-zero, le_of_dvd}
-use Rattle.std.proofs.Math.Nat.{eq-zero_of_zero-dvd, eq-one_of_dvd-one, dvd-mul_right, dvd_of_mul-dvd-mul_left}
+use Rattle.std.proofs.Math.Nat.{one-dvd, eq-zero_of_zero-dvd, eq-one_of_dvd-one, dvd-mul_right, dvd_of_mul-dvd-mul_left}
 use Rattle.std.proofs.lemmas.Int.{ints, quot_is, quot_fits, to_z_pos, fits_signed_from_abs, unsigned_abs-mul}
 use Rattle.git_lemmas.proofs.Integers.{zero_of_size}
 use Rattle.git_defs.specs.Vectors.{Vector, scale, IsPrimitive}
@@ -84,3 +84,13 @@ primitive_part v w g c some e = record { divisor = g; positive = some; is = e; p
 
 pub primitive_zero : (v : Vector) (g : ℕ) → IsContent v g → g ≡ 0 → IsPrimitivePart v v
 primitive_zero v g c e = record { divisor = 1; positive = omega arith; is = sym (scale-one v); primitive = λ nonzero. absurd (nonzero (zero_content v g c e)) }
+
+pub primitive_one : (v : Vector) (g : ℕ) → IsContent v g → g ≡ 1 → IsPrimitivePart v v
+primitive_one v g c e = primitive_part v v g c (omega (arith, e)) (sym (scale-one v) ∙ ap (λ (n : ℕ). scale (pos n) v) (sym e))
+
+-- a front with content 1
+pub content_one : (v : List ℤ) (i g : ℕ) → IsContent (take i v) g → g ≡ 1 → IsContent v 1
+content_one v i g c e = record {
+  divides = λ k d h. one-dvd (unsigned_abs (get_or v k d));
+  greatest = λ d each. subst (λ (n : ℕ). d ∣ n) e (c.greatest d (All-take (λ z. d ∣ unsigned_abs z) i v each));
+}

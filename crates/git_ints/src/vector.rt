@@ -151,6 +151,9 @@ impl IVec {
         if divisor == 0 {
             return *self;
         }
+        if divisor == 1 {
+            return *self;
+        }
         let mut all = [0i128; ROWS];
         for i in 0..a.len() {
             all[i] = quotient(a[i], divisor);

@@ -7,13 +7,18 @@ use Rattle.git_ints.specs.Padded.{AreWithin}
 use Rattle.git_ints.specs.Content.{IsContent, IsPrimitivePart}
 use Rattle.git_ints.proofs.Sizes.{kept}
 use Rattle.git_ints.proofs.Built.{built_divided}
-use Rattle.git_ints.proofs.Contents.{primitive_part, primitive_zero, content_small}
+use Rattle.git_ints.proofs.Contents.{primitive_part, primitive_zero, primitive_one, content_small}
 use Rattle.git_ints.proofs.vector.IVec.primitive.Goals as goal
 
 pub returns-then-divisor-eq0 : goal.returns-then-divisor-eq0
 returns-then-divisor-eq0 c =
     let is : IsContent c.args.self.now c.content-divisor.result = subst (λ (v : Vector). IsContent v c.content-divisor.result) c.as_slice-a.ensures.value c.content-divisor.ensures in
     primitive_zero c.args.self.now c.content-divisor.result is c.if-divisor-eq0.true
+
+pub returns-then-divisor-eq1 : goal.returns-then-divisor-eq1
+returns-then-divisor-eq1 c =
+    let is : IsContent c.args.self.now c.content-divisor.result = subst (λ (v : Vector). IsContent v c.content-divisor.result) c.as_slice-a.ensures.value c.content-divisor.ensures in
+    primitive_one c.args.self.now c.content-divisor.result is c.if-divisor-eq1.true
 
 pub quotient-requires-clause-small : goal.quotient-requires-clause-small
 quotient-requires-clause-small c =
