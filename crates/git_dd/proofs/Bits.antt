@@ -11,7 +11,7 @@ one_or_zero zero h = inl refl
 one_or_zero (suc zero) h = inr refl
 one_or_zero (suc (suc n)) h = absurd (omega arith)
 
-less : (m n : ℕ) → (m < n) ⊎ (n ≤ m)
+pub less : (m n : ℕ) → (m < n) ⊎ (n ≤ m)
 less zero zero = inr (omega arith)
 less zero (suc n) = inl (omega arith)
 less (suc m) zero = inr (omega arith)

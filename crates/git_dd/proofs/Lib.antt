@@ -1,7 +1,9 @@
 pub mod Bits
 pub mod Blending
+pub mod Counting
 pub mod Eliminating
 pub mod Ends
+pub mod Enough
 pub mod Extends
 pub mod Finals
 pub mod Lates

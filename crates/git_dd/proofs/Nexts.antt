@@ -130,20 +130,15 @@ adjacent_join A us vs ws r s p q o = record {
 pub adjacent_part : (A us vs : List Vector) (r s : Vector) → ((t : Vector) → Member t us → Member t vs) → Adjacent A vs r s → Adjacent A us r s
 adjacent_part A us vs r s to p = record { only = λ t m f. p.only t (to t m) f }
 
--- ---- the next list
-module _ (k : ℕ) (A R : List Vector) (b : Vector) (above level below made next : List Vector) (pointed : IsPointed k (Cut k A)) (exact : Exact k A R)
-    (sided : IsSided b R above level below) (makes : MakesAll (A ++ b ∷ []) (above ++ (level ++ below)) b above below [] made)
-    (each : (x : Vector) → Member x next ↔ (Member x made ⊎ (Member x above ⊎ Member x level))) where
-  abbrev all : List Vector
-  all = above ++ (level ++ below)
-
-  to_all : (x : Vector) → Member x R → Member x all
+-- ---- the vectors of the three sides
+module _ (A R : List Vector) (b : Vector) (above level below : List Vector) (sided : IsSided b R above level below) where
+  pub to_all : (x : Vector) → Member x R → Member x (above ++ (level ++ below))
   to_all x m = elim (sided.split x m) [
     | inl n ↦ member_left x above (level ++ below) n
     | inr o ↦ member_right x above (level ++ below) (elim o [ inl n ↦ member_left x level below n | inr n ↦ member_right x level below n ])
   ]
 
-  of_all : (x : Vector) → Member x all → Member x R
+  pub of_all : (x : Vector) → Member x (above ++ (level ++ below)) → Member x R
   of_all x m = elim (member_either x above (level ++ below) m) [
     | inl n ↦ (sided.above_in x n).0
     | inr n ↦ elim (member_either x level below n) [ inl l ↦ (sided.level_in x l).0 | inr l ↦ (sided.below_in x l).0 ]
@@ -156,21 +151,34 @@ module _ (k : ℕ) (A R : List Vector) (b : Vector) (above level below made next
     | inr n ↦ elim n [ inl e ↦ absurd (let f = ap (λ (u : Vector). dot u r) e ∙ z.0 in omega (arith, ints, f, up)) | inr o ↦ absurd o ]
   ]
 
+  pub adjacent_before : (r s : Vector) → pos 0 <ℤ dot b r → Adjacent (A ++ b ∷ []) (above ++ (level ++ below)) r s → Adjacent A R r s
+  adjacent_before r s up adjacent = record { only = λ t n f. adjacent.only t (to_all t n) (flat_more r s t up f) }
+
+-- ---- the next list
+module _ (k : ℕ) (A R : List Vector) (b : Vector) (above level below made next : List Vector) (pointed : IsPointed k (Cut k A)) (exact : Exact k A R)
+    (sided : IsSided b R above level below) (makes : MakesAll (A ++ b ∷ []) (above ++ (level ++ below)) b above below [] made)
+    (each : (x : Vector) → Member x next ↔ (Member x made ⊎ (Member x above ⊎ Member x level))) where
+  abbrev all : List Vector
+  all = above ++ (level ++ below)
+
+  of_sides : (x : Vector) → Member x all → Member x R
+  of_sides = of_all A R b above level below sided
+
   flat_less : (r s t : Vector) → Flat (ZeroOnBoth r s) (A ++ b ∷ []) t → Flat (ZeroOnBoth r s) A t
   flat_less r s t flat a m z = flat a (member_left a A (b ∷ []) m) z
 
   blended : (x : Vector) → IsMade (A ++ b ∷ []) all b x → IsBlended A R b x
   blended x m =
-      let er = exact.edges m.over (of_all m.over m.over_in) in let es = exact.edges m.under (of_all m.under m.under_in) in
+      let er = exact.edges m.over (of_sides m.over m.over_in) in let es = exact.edges m.under (of_sides m.under m.under_in) in
       let size = (blend_cut k A b m.over m.under er.member es.member m.above m.below).entries in
       record {
         over = m.over;
         under = m.under;
-        over_in = of_all m.over m.over_in;
-        under_in = of_all m.under m.under_in;
+        over_in = of_sides m.over m.over_in;
+        under_in = of_sides m.under m.under_in;
         above = m.above;
         below = m.below;
-        adjacent = record { only = λ t n f. m.adjacent.only t (to_all t n) (flat_more m.over m.under t m.above f) };
+        adjacent = adjacent_before A R b above level below sided m.over m.under m.above m.adjacent;
         times = m.part.divisor;
         positive = m.part.positive;
         is = sym m.part.is;
@@ -192,7 +200,7 @@ module _ (k : ℕ) (A R : List Vector) (b : Vector) (above level below made next
     ];
     made = λ r s m n up low adjacent.
         let g = makes.each r s (over_of r m up) (under_of s n low)
-        (record { only = λ t o f. adjacent.only t (of_all t o) (flat_less r s t f) }) in
+        (record { only = λ t o f. adjacent.only t (of_sides t o) (flat_less r s t f) }) in
         record {
           vector = g.one;
           member = (each g.one).1 (inl (subst (Member g.one) (sym makes.is) g.member));

@@ -1,17 +1,22 @@
 -- What the blends of a stage need, and what is moved.
 use Rattle.std.proofs.Common.{◌≡◌, ℕ, ◌+◌, ◌*◌, ◌<◌, ◌≤◌, List, [], ◌∷◌, ◌++◌, length, take, get_or, sym, ◌∙◌, ap, subst, arith, inl, inr, length-take}
 use Rattle.std.proofs.lemmas.List.{take_more}
-use Rattle.std.proofs.lemmas.List.Elements.{All-contains, Contains-get_or}
-use Rattle.std.specs.Prelude.{All, Contains}
-use Rattle.git_defs.specs.Vectors.{Vector}
+use Rattle.std.proofs.lemmas.List.Elements.{All-take, All-contains, Contains-get_or}
+use Rattle.std.specs.Prelude.{◌<ℤ◌, All, Contains}
+use Rattle.std.proofs.Math.IntN.{pos}
+use Rattle.git_defs.specs.Vectors.{Vector, dot}
+use Rattle.git_defs.specs.Cones.{Cut, IsPointed}
 use Rattle.git_lemmas.specs.Members.{Member}
 use Rattle.git_lemmas.proofs.Members.{contains_member, all_member}
 use Rattle.git_geometry.specs.Stages.{Exact}
 use Rattle.git_stages.specs.Short.{IsShort}
-use Rattle.git_dd.proofs.Nexts.{vector_in, ray_in}
+use Rattle.git_geometry.specs.Zeros.{Adjacent}
+use Rattle.git_geometry.proofs.Lists.{member_left}
+use Rattle.git_dd.proofs.Enough.{enough}
+use Rattle.git_dd.proofs.Nexts.{vector_in, ray_in, of_all, adjacent_before}
 use Rattle.git_dd.specs.Making.{IsSided}
 use Rattle.git_dd.specs.Marks.{IsRay, vectors}
-use Rattle.git_dd.specs.Sides.{IsMarkedRay, AreMarkedSides, IsFit, IsReady, IsMoved}
+use Rattle.git_dd.specs.Sides.{IsMarkedRay, AreMarkedSides, IsFit, IsReady, IsMoved, HasZeros, all_of}
 use Rattle.git_dd.specs.declared.ray.Ray.{Ray}
 use Rattle.git_dd.specs.declared.stage.Sides.{Sides}
 
@@ -19,7 +24,7 @@ pub last_is : (A : List Vector) (n : ℕ) (b : Vector) → n < length A → b �
 last_is A n b h is = take_more A n b h ∙ ap (λ (u : Vector). take n A ++ u ∷ []) (sym is)
 
 module _ (k : ℕ) (A : List Vector) (n : ℕ) (b : Vector) (width : ℕ) (rays : List Ray) (sides : Sides) (h : n < length A) (room : length A ≤ 64 * width) (short : All (IsShort k) A) (is : b ≡ get_or A n b)
-    (good : All (IsRay k (take n A) width) rays) (exact : Exact k (take n A) (vectors rays))
+    (good : All (IsRay k (take n A) width) rays) (pointed : IsPointed k (Cut k (take n A))) (exact : Exact k (take n A) (vectors rays))
     (sided : IsSided b (vectors rays) (vectors sides.above.items) (vectors sides.level.items) (vectors sides.below.items)) (marked : AreMarkedSides (take n A ++ b ∷ []) width sides) where
   last : take (n + 1) A ≡ take n A ++ b ∷ []
   last = last_is A n b h is
@@ -36,14 +41,27 @@ module _ (k : ℕ) (A : List Vector) (n : ℕ) (b : Vector) (width : ℕ) (rays 
         inside = (exact.edges r.vector m).member;
       }
 
+  all_in : (x : Vector) → Member x (all_of sides) → Member x (vectors rays)
+  all_in = of_all (take n A) (vectors rays) b (vectors sides.above.items) (vectors sides.level.items) (vectors sides.below.items) sided
+
+  before : (r s : Vector) → pos 0 <ℤ dot b r → Adjacent (take (n + 1) A) (all_of sides) r s → Adjacent (take n A) (vectors rays) r s
+  before r s up adjacent = adjacent_before (take n A) (vectors rays) b (vectors sides.above.items) (vectors sides.level.items) (vectors sides.below.items) sided r s up
+      (subst (λ (u : List Vector). Adjacent u (all_of sides) r s) last adjacent)
+
+  fewer : (r s : Vector) (zeros : List Vector) → HasZeros k (take (n + 1) A) r s zeros → HasZeros k (take n A) r s zeros
+  fewer r s zeros has = record { entries = has.entries; all = λ a m z. has.all a (subst (Member a) (sym last) (member_left a (take n A) (b ∷ []) m)) z }
+
   pub ready : IsReady k (take n A) (take (n + 1) A) b width sides
   ready = record {
     last = last;
     room = let e = length-take n A in omega (arith, e, h, room);
     inequality = subst (IsShort k) (sym is) (short n b h);
+    short = All-take (IsShort k) (n + 1) A short;
     marked = marked2;
     above = λ r c. let s = sided.above_in r.vector (vector_in sides.above.items r (contains_member r sides.above.items c)) in (fit sides.above.items marked2.above r c s.0, s.1);
     below = λ r c. let s = sided.below_in r.vector (vector_in sides.below.items r (contains_member r sides.below.items c)) in (fit sides.below.items marked2.below r c s.0, s.1);
+    enough = λ r s r_in s_in up low adjacent zeros has.
+        enough k (take n A) (vectors rays) pointed exact r s (all_in r r_in) (all_in s s_in) (before r s up adjacent) zeros (fewer r s zeros has);
   }
 
 pub moved_all : (P : Ray → Type 0) (from old new : List Ray) → IsMoved from old new → All P old → All P from → All P new

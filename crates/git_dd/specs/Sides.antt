@@ -1,8 +1,9 @@
 -- Vectors with marks on the sides of an inequality.
-use Rattle.std.specs.Prelude.{◌≡◌, ◌⊎◌, ◌↔◌, ◌<◌, ◌*◌, ◌<ℤ◌, ℕ, List, [], ◌∷◌, ◌++◌, length, pos, All, Contains}
-use Rattle.git_defs.specs.Vectors.{Vector, dot}
+use Rattle.std.specs.Prelude.{◌≡◌, ◌⊎◌, ◌↔◌, ◌<◌, ◌≤◌, ◌*◌, ◌+◌, ◌<ℤ◌, ℕ, List, [], ◌∷◌, ◌++◌, length, pos, All, Contains}
+use Rattle.git_defs.specs.Vectors.{Vector, AllOfLength, dot}
 use Rattle.git_defs.specs.Cones.{Cut}
-use Rattle.git_geometry.specs.Zeros.{Adjacent}
+use Rattle.git_lemmas.specs.Members.{Member}
+use Rattle.git_geometry.specs.Zeros.{Adjacent, ZeroOnBoth}
 use Rattle.git_geometry.specs.Stages.{blend}
 use Rattle.git_ints.specs.Content.{IsPrimitivePart}
 use Rattle.git_stages.specs.Short.{IsShort}
@@ -22,6 +23,11 @@ pub record AreMarkedSides (A : List Vector) (width : ℕ) (sides : Sides) : Type
 abbrev pub all_of : Sides → List Vector
 all_of sides = vectors sides.above.items ++ (vectors sides.level.items ++ vectors sides.below.items)
 
+-- among the vectors of k entries are all inequalities that are 0 on both
+pub record HasZeros (k : ℕ) (A : List Vector) (r s : Vector) (zeros : List Vector) : Type 0 where
+  pub entries : AllOfLength k zeros
+  pub all : (a : Vector) → Member a A → ZeroOnBoth r s a → Member a zeros
+
 -- what the making of a blend needs of a vector
 pub record IsFit (k : ℕ) (front upto : List Vector) (width : ℕ) (ray : Ray) : Type 0 where
   pub short : IsShort k ray.vector
@@ -33,9 +39,12 @@ pub record IsReady (k : ℕ) (front upto : List Vector) (b : Vector) (width : �
   pub last : upto ≡ front ++ b ∷ []
   pub room : length front < 64 * width
   pub inequality : IsShort k b
+  pub short : All (IsShort k) upto
   pub marked : AreMarkedSides upto width sides
   pub above : (r : Ray) → Contains sides.above.items r → IsFit k front upto width r × (pos 0 <ℤ dot b r.vector)
   pub below : (r : Ray) → Contains sides.below.items r → IsFit k front upto width r × (dot b r.vector <ℤ pos 0)
+  pub enough : (r s : Vector) → Member r (all_of sides) → Member s (all_of sides) → pos 0 <ℤ dot b r → dot b s <ℤ pos 0 → Adjacent upto (all_of sides) r s
+      → (zeros : List Vector) → HasZeros k upto r s zeros → k ≤ length zeros + 2
 
 -- a blend was added
 pub record Added (upto all : List Vector) (b : Vector) (width : ℕ) (r s : Vector) (old new : List Ray) : Type 0 where

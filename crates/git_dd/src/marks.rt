@@ -1,8 +1,8 @@
 //! Sets of numbers as the bits of words.
-ghost use Rattle.std.specs.Prelude.{◌≡◌, ◌↔◌, ◌⊎◌, ◌<◌, ◌≤◌, ◌*◌, ℕ, List, All, IfOk, IsTrue, length};
+ghost use Rattle.std.specs.Prelude.{◌≡◌, ◌↔◌, ◌⊎◌, ◌<◌, ◌≤◌, ◌*◌, ◌+◌, ℕ, List, All, IfOk, IsTrue, length};
 ghost use Rattle.git_defs.specs.Vectors.{Vector};
 ghost use Rattle.git_stages.specs.Short.{IsShort};
-ghost use Rattle.git_dd.specs.Marks.{HasMark, IsMarked};
+ghost use Rattle.git_dd.specs.Marks.{HasMark, IsMarked, shared};
 
 use git_base::NoMemory;
 use git_ints::IVec;
@@ -22,6 +22,22 @@ pub fn has_common(r: &[u64], s: &[u64], t: &[u64]) -> bool
         }
     }
     true
+}
+
+/// Whether both have at least `k - 2` marks in common.
+pub fn share_enough(k: usize, r: &[u64], s: &[u64]) -> bool
+    requires { length s.now ≡ length r.now }
+    ensures { IsTrue result ↔ (k ≤ shared r.now s.now + 2) }
+{
+    let mut left = k;
+    for i in 0..r.len() {
+        let here = (r[i] & s[i]).count_ones() as usize;
+        if left <= here + 2 {
+            return true;
+        }
+        left -= here;
+    }
+    left <= 2
 }
 
 /// One mark more.

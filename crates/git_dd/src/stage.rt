@@ -9,9 +9,9 @@ ghost use Rattle.git_ints.specs.Content.{IsPrimitivePart};
 ghost use Rattle.git_stages.specs.Short.{IsShort};
 ghost use Rattle.git_dd.specs.Making.{IsSided, IsPlaced, Makes, MakesAll};
 ghost use Rattle.git_dd.specs.Marks.{IsMarked, IsRay, vectors};
-ghost use Rattle.git_dd.specs.Sides.{IsMarkedRay, AreMarkedSides, IsFit, IsReady, HasAdded, IsMoved, all_of};
+ghost use Rattle.git_dd.specs.Sides.{IsMarkedRay, AreMarkedSides, IsFit, IsReady, HasAdded, HasZeros, IsMoved, all_of};
 
-use crate::marks::{common, has_common, mark};
+use crate::marks::{common, has_common, mark, share_enough};
 use crate::ray::Ray;
 use git_base::NoMemory;
 use git_ints::IVec;
@@ -167,6 +167,22 @@ fn are_neighbours(upto: &[IVec], width: usize, sides: &Sides, r: &Ray, s: &Ray) 
     on_below
 }
 
+/// Whether two vectors are neighbours. Those that are share at least `k - 2` zeros, which are counted
+/// first.
+fn meet(k: usize, upto: &[IVec], width: usize, sides: &Sides, r: &Ray, s: &Ray) -> bool
+    requires upto { All (IsShort k) upto.now }
+    requires sides { AreMarkedSides upto.now width sides.now }
+    requires r { IsMarkedRay upto.now width r.now }
+    requires s { IsMarkedRay upto.now width s.now }
+    requires enough { Adjacent upto.now (all_of sides.now) r.now.vector s.now.vector → (zeros : List Vector) → HasZeros k upto.now r.now.vector s.now.vector zeros → k ≤ length zeros + 2 }
+    ensures { IsTrue result ↔ Adjacent upto.now (all_of sides.now) r.now.vector s.now.vector }
+{
+    if !share_enough(k, &r.zeros, &s.zeros) {
+        return false;
+    }
+    are_neighbours(upto, width, sides, r, s)
+}
+
 /// The blend of two vectors, with its marks.
 fn blended(
     alloc: Global,
@@ -209,11 +225,13 @@ fn add_blend(
     requires ready { IsReady k front.now upto.now b.now width sides.now }
     requires r { IsFit k front.now upto.now width r.now }
     requires s { IsFit k front.now upto.now width s.now }
+    requires r_in { Member r.now.vector (all_of sides.now) }
+    requires s_in { Member s.now.vector (all_of sides.now) }
     requires above { pos 0 <ℤ dot b.now r.now.vector }
     requires below { dot b.now s.now.vector <ℤ pos 0 }
     ensures { IfOk result (λ done. HasAdded upto.now (all_of sides.now) b.now width r.now.vector s.now.vector out.old.items out.new.items) }
 {
-    if !are_neighbours(upto, width, sides, r, s) {
+    if !meet(k, upto, width, sides, r, s) {
         return Ok(());
     }
     let ray = blended(alloc, k, front, upto, b, width, r, s)?;

@@ -2,4 +2,4 @@ use Rattle.std.proofs.Common.{inl}
 use Rattle.git_dd.proofs.stage.add_blend.Goals as goal
 
 pub returns : goal.returns
-returns c = inl (record { ray = c.in_ok-ray.ray; is = c.in_ok-add.ensures; adjacent = c.are_neighbours.ensures.0 c.if-not-are_neighbours.false; part = c.in_ok-ray.ensures.part; marked = c.in_ok-ray.ensures.marked })
+returns c = inl (record { ray = c.in_ok-ray.ray; is = c.in_ok-add.ensures; adjacent = c.meet.ensures.0 c.if-not-meet.false; part = c.in_ok-ray.ensures.part; marked = c.in_ok-ray.ensures.marked })

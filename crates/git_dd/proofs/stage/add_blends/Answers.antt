@@ -19,6 +19,12 @@ add_blend-requires-clause-s c = (c.requires.ready.below c.s-item.result (subst (
 pub add_blend-requires-clause-below : goal.add_blend-requires-clause-below
 add_blend-requires-clause-below c = (c.requires.ready.below c.s-item.result (subst (λ (u : List Ray). Contains u c.s-item.result) c.requires.below (c.loop-s.s-index, (omega arith), sym c.s-item.is))).1
 
+pub add_blend-requires-clause-s_in : goal.add_blend-requires-clause-s_in
+add_blend-requires-clause-s_in c =
+    let S = c.args.sides.now in let s = c.s-item.result in
+    let a = vectors S.above.items in let l = vectors S.level.items in let d = vectors S.below.items in
+    member_right s.vector a _ (member_right s.vector l d (vector_in S.below.items s (contains_member s S.below.items (subst (λ (u : List Ray). Contains u s) c.requires.below (c.loop-s.s-index, (omega arith), sym c.s-item.is)))))
+
 pub loop-s-init : goal.loop-s-init
 loop-s-init c = record { makes = makes_none _ _ _ _ _ _ (sym (append-nil (vectors c.args.out.now.items))); marked = c.requires.marked }
 

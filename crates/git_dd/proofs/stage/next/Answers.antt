@@ -12,7 +12,7 @@ use Rattle.git_dd.specs.declared.ray.Ray.{Ray}
 use Rattle.git_dd.proofs.stage.next.Goals as goal
 
 pub all_blends-requires-clause-ready : goal.all_blends-requires-clause-ready
-all_blends-requires-clause-ready c = ready c.args.k c.args.ordered.now c.args.n c.index-ordered-n.result c.args.width c.args.rays.items c.in_ok-sides.sides c.requires.at c.requires.room c.requires.ordered c.index-ordered-n.is c.requires.rays c.requires.exact c.in_ok-sides.ensures.sided c.in_ok-sides.ensures.marked
+all_blends-requires-clause-ready c = ready c.args.k c.args.ordered.now c.args.n c.index-ordered-n.result c.args.width c.args.rays.items c.in_ok-sides.sides c.requires.at c.requires.room c.requires.ordered c.index-ordered-n.is c.requires.rays c.requires.pointed c.requires.exact c.in_ok-sides.ensures.sided c.in_ok-sides.ensures.marked
 
 pub returns-clause-next : goal.returns-clause-next
 returns-clause-next c =
