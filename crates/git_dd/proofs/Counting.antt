@@ -97,8 +97,8 @@ numbers_has : (ws : List ℕ) (at w i : ℕ) → bit_at (get_or ws w 0) i ≡ 1 
 numbers_has [] at w i e h = absurd (omega (arith, h))
 numbers_has (x ∷ ws) at zero i e h = in_left (at + (64 * 0 + i)) (places x x at) (numbers ws (at + 64))
     (subst (λ (m : ℕ). Member m (places x x at)) (omega arith) (places_has x x at i (within x i e) e)) where
-  within : (x i : ℕ) → bit_at x i ≡ 1 → i < x
-  within x i e = elim (less i x) [ inl l ↦ l | inr l ↦ absurd (let z = bit_at_above x x i (below_power x) l in omega (arith, z, e)) ]
+      within : (x i : ℕ) → bit_at x i ≡ 1 → i < x
+      within x i e = elim (less i x) [ inl l ↦ l | inr l ↦ absurd (let z = bit_at_above x x i (below_power x) l in omega (arith, z, e)) ]
 numbers_has (x ∷ ws) at (suc w) i e h = in_right (at + (64 * suc w + i)) (places x x at) (numbers ws (at + 64))
     (subst (λ (m : ℕ). Member m (numbers ws (at + 64))) (omega arith) (numbers_has ws (at + 64) w i e (omega (arith, h))))
 

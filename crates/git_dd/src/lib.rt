@@ -8,6 +8,7 @@ mod elimination;
 mod extending;
 mod listing;
 mod marks;
+mod plain;
 mod ray;
 mod splitting;
 mod stage;
@@ -16,6 +17,7 @@ pub use answers::{DdFault, Rays, StageFault};
 pub use git_stages::{WideAt, WideWhat};
 pub use listing::{first_rays, full_rays, rays};
 pub use marks::has_common;
+pub use plain::are_adjacent;
 pub use ray::Ray;
 
 #[cfg(test)]

@@ -1,5 +1,11 @@
 //! Cones that everybody knows.
+ghost use Rattle.std.specs.Prelude.{◌≤◌, ◌*◌, All, length};
+ghost use Rattle.git_stages.specs.Short.{IsShort};
+ghost use Rattle.git_dd.specs.Marks.{IsRay};
+
 use super::*;
+use crate::marks::share_enough;
+use crate::stage::is_adjacent;
 use git_ints::IVec;
 use git_stages::are_short;
 use std::alloc::Global;
@@ -209,5 +215,99 @@ fn entries_at_the_limit(rt: HostRuntime) -> Result<(), Fail> {
         found.list.as_slice(),
         [IVec::of(&[0, 1]), IVec::of(&[m, -1])].as_slice()
     );
+    Ok(())
+}
+
+/// The number of neighbours of a vector, which the quick test by marks and the plain one agree on.
+fn neighbours_of(
+    rt: &impl Abort,
+    k: usize,
+    inequalities: &[IVec],
+    width: usize,
+    rays: &[Ray],
+    list: &[IVec],
+    r: &Ray,
+) -> usize
+    requires inequalities { All (IsShort k) inequalities.now }
+    requires list { All (IsShort k) list.now }
+    requires rays { All (IsRay k inequalities.now width) rays.now }
+    requires r { IsRay k inequalities.now width r.now }
+{
+    let mut count = 0usize;
+    for s in rays {
+        let quick = share_enough(k, &r.zeros, &s.zeros)
+            && is_adjacent(inequalities, width, rays, r, s);
+        let plain = are_adjacent(k, inequalities, list, &r.vector, &s.vector);
+        assert_eq!(rt; quick, plain);
+        if quick {
+            count = count.saturating_add(1);
+        }
+    }
+    count
+}
+
+/// The number of pairs of neighbours among the extreme vectors, each vector with itself among them.
+fn neighbours(
+    rt: &impl Abort,
+    alloc: Global,
+    k: usize,
+    inequalities: &[IVec],
+) -> Result<usize, Fail> {
+    let found = answer(rt, alloc, k, inequalities)?;
+    assert!(rt; are_short(k, inequalities) && are_short(k, &found.list));
+    assert!(rt; inequalities.len() < 1000);
+    let width = inequalities.len() / 64 + 1;
+    let rays = first_rays(alloc, k, inequalities, width, &found.list)?;
+    let mut count = 0usize;
+    for r in &rays {
+        count = count.saturating_add(neighbours_of(
+            rt,
+            k,
+            inequalities,
+            width,
+            &rays,
+            &found.list,
+            r,
+        ));
+    }
+    Ok(count)
+}
+
+/// A cube has 12 edges, the dual of a cyclic polytope with 8 corners in four dimensions 40. In the sum of
+/// two squares the corners of a diagonal share 4 sides, and are no neighbours.
+#[test]
+fn quick_and_plain_neighbours_are_the_same(rt: HostRuntime) -> Result<(), Fail> {
+    let alloc = rt.alloc();
+    let cube = [
+        IVec::of(&[1, 0, 0, 0]),
+        IVec::of(&[0, 1, 0, 0]),
+        IVec::of(&[0, 0, 1, 0]),
+        IVec::of(&[-1, 0, 0, 2]),
+        IVec::of(&[0, -1, 0, 2]),
+        IVec::of(&[0, 0, -1, 2]),
+    ];
+    assert_eq!(rt; neighbours(&rt, alloc, 4, &cube)?, 8 + 2 * 12);
+    let cyclic = [
+        IVec::of(&[1, -3, 9, -27, 81]),
+        IVec::of(&[1, -2, 4, -8, 16]),
+        IVec::of(&[1, -1, 1, -1, 1]),
+        IVec::of(&[1, 0, 0, 0, 0]),
+        IVec::of(&[1, 1, 1, 1, 1]),
+        IVec::of(&[1, 2, 4, 8, 16]),
+        IVec::of(&[1, 3, 9, 27, 81]),
+        IVec::of(&[1, 4, 16, 64, 256]),
+    ];
+    assert_eq!(rt; neighbours(&rt, alloc, 5, &cyclic)?, 20 + 2 * 40);
+    let squares = [
+        IVec::of(&[1, 0, 0, 0, 0, 0]),
+        IVec::of(&[0, 1, 0, 0, 0, 0]),
+        IVec::of(&[-1, 0, 1, 0, 0, 0]),
+        IVec::of(&[0, -1, 1, 0, 0, 0]),
+        IVec::of(&[0, 0, 0, 1, 0, 0]),
+        IVec::of(&[0, 0, 0, 0, 1, 0]),
+        IVec::of(&[0, 0, 0, -1, 0, 1]),
+        IVec::of(&[0, 0, 0, 0, -1, 1]),
+    ];
+    assert_eq!(rt; neighbours(&rt, alloc, 6, &squares)?, 8 + 2 * (4 + 4 + 16));
     Ok(())
 }
