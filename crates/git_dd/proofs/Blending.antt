@@ -54,10 +54,6 @@ moved_more left rest out out2 ray e f x = (to, back) where
 pub iff_through : {A B C : Type 0} → (A ↔ B) → (B ↔ C) → (A ↔ C)
 iff_through f g = (λ a. g.0 (f.0 a), λ c. f.1 (g.1 c))
 
-pub nothing : (xs : List Ray) → length xs ≡ 0 → xs ≡ []
-nothing [] e = refl
-nothing (x ∷ xs) e = absurd (omega arith)
-
 -- the vectors of what was moved
 pub moved_vectors : (made above level mid out : List Ray) → IsMoved above made mid → IsMoved level mid out → (v : Vector)
     → Member v (vectors out) ↔ (Member v (vectors made) ⊎ (Member v (vectors above) ⊎ Member v (vectors level)))

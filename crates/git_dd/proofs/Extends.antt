@@ -46,7 +46,7 @@ late_stage k n A ws h l rays = record {
   rays = subst (λ (u : List Vector). AreRays k (Cut k u) ws) (sym (front_back k n A h l)) rays;
 }
 
-one_more : (i n : ℕ) → i ≤ n + 1 → (i ≤ n) ⊎ (i ≡ n + 1)
+pub one_more : (i n : ℕ) → i ≤ n + 1 → (i ≤ n) ⊎ (i ≡ n + 1)
 one_more zero n h = inl (omega arith)
 one_more (suc i) zero h = inr (omega (arith, h))
 one_more (suc i) (suc n) h = elim (one_more i n (omega (arith, h))) [ inl l ↦ inl (omega (arith, l)) | inr e ↦ inr (omega (arith, e)) ]

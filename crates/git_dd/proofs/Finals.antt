@@ -3,6 +3,7 @@ use Rattle.std.proofs.Common.{◌≡◌, ℕ, ◌≤◌, List, [], ◌∷◌, �
 use Rattle.std.proofs.Math.Seq.{drop-length, take-append_seam}
 use Rattle.std.proofs.lemmas.List.{take_all}
 use Rattle.std.specs.Prelude.{All, Contains}
+use Rattle.std.proofs.lemmas.List.{nil_from_length}
 use Rattle.git_defs.specs.Vectors.{Vector, units, HasRank}
 use Rattle.git_defs.specs.Cones.{Cut, IsPointed, SameSet}
 use Rattle.git_lemmas.specs.Members.{Member}
@@ -63,14 +64,10 @@ split_from k taken (b ∷ left) base rest (inr s) x m =
       ]
     ]
 
-nil_of : (us : List Vector) → length us ≡ 0 → us ≡ []
-nil_of [] e = refl
-nil_of (u ∷ us) e = absurd (omega arith)
-
 module _ (k : ℕ) (given prepared base free rays rest : List Vector) (is_prepared : IsPrepared given prepared) (given_short : All (IsShort k) given)
     (p : Progress k prepared (length prepared) base free rays rest) (full : length base ≡ k) where
   none_free : free ≡ []
-  none_free = nil_of free (let e = p.size in omega (arith, e, full))
+  none_free = nil_from_length free (let e = p.size in omega (arith, e, full))
 
   state : Eliminated k base [] rays
   state = subst (λ (u : List Vector). Eliminated k base u rays) none_free p.state

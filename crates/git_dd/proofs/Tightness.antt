@@ -11,9 +11,6 @@ use Rattle.git_defs.specs.Vectors.{Vector, dot}
 use Rattle.git_stages.proofs.Fronts.{any_default}
 use Rattle.git_dd.specs.Tights.{AreTight, AreAllTight}
 
-pub tight_none : (P : List Vector) (x : Vector) → AreTight (take 0 P) x []
-tight_none P x = record { ascending = λ i j d h l. absurd (omega arith); each = λ i. (λ c. absurd (omega (arith, c.1)), λ h. absurd (omega (arith, h.0))) }
-
 front_size : (P : List Vector) (n : ℕ) → n ≤ length P → length (take n P) ≡ n
 front_size P n h = let e = length-take n P in omega (arith, e, h)
 
@@ -58,9 +55,6 @@ tight_skip P x places i d h t some = record {
     ],
   );
 }
-
-pub all_tight_none : (P L : List Vector) → AreAllTight P (take 0 L) []
-all_tight_none P L = record { one_each = refl; exact = λ i h. absurd (omega (arith, h)) }
 
 pub all_tight_more : (P L : List Vector) (tight : List (List ℕ)) (places : List ℕ) (i : ℕ) (d : Vector) → i < length L → AreAllTight P (take i L) tight → AreTight P (get_or L i d) places → AreAllTight P (take (i + 1) L) (tight ++ places ∷ [])
 all_tight_more P L tight places i d h t here =

@@ -1,7 +1,8 @@
 use Rattle.std.proofs.Common.{◌≡◌, List, [], subst, arith, inl, inr}
 use Rattle.std.specs.Prelude.{Contains}
 use Rattle.git_dd.specs.declared.ray.Ray.{Ray}
-use Rattle.git_dd.proofs.Blending.{moved_more, iff_through, nothing}
+use Rattle.std.proofs.lemmas.List.{nil_from_length}
+use Rattle.git_dd.proofs.Blending.{moved_more, iff_through}
 use Rattle.git_dd.proofs.stage.move_all.Goals as goal
 
 pub moving-init : goal.moving-init
@@ -12,7 +13,7 @@ moving-preserved c = λ x. iff_through (moved_more c.moving.left.items c.pop.new
 
 pub returns-in-None : goal.returns-in-None
 returns-in-None c =
-    let empty : c.moving.left.items ≡ [] = nothing c.moving.left.items (omega (arith, c.in-None.ensures.cases.0, c.moving.left.ok.0)) in
+    let empty : c.moving.left.items ≡ [] = nil_from_length c.moving.left.items (omega (arith, c.in-None.ensures.cases.0, c.moving.left.ok.0)) in
     record {
       each = λ x. (
         λ h. (c.moving.invariant x).0 (inl h),

@@ -1,6 +1,6 @@
 use Rattle.std.proofs.Common.{◌≡◌, List, [], ◌∷◌, ◌++◌, sym, subst, arith, Some}
 use Rattle.std.proofs.lemmas.List.Elements.{All-nil, All-same, All-pop}
-use Rattle.git_dd.proofs.Blending.{nothing}
+use Rattle.std.proofs.lemmas.List.{nil_from_length}
 use Rattle.git_dd.proofs.Nexts.{vectors_end, sided_more, sided_none, sided_all}
 use Rattle.git_dd.specs.Making.{IsSidedTo}
 use Rattle.git_dd.specs.Marks.{vectors, IsRay}
@@ -40,7 +40,7 @@ moving-preserved c =
 
 pub returns-in-None-clause-sided : goal.returns-in-None-clause-sided
 returns-in-None-clause-sided c =
-    let empty : c.moving.left.items ≡ [] = nothing c.moving.left.items (omega (arith, c.in-None.ensures.cases.0, c.moving.left.ok.0)) in
+    let empty : c.moving.left.items ≡ [] = nil_from_length c.moving.left.items (omega (arith, c.in-None.ensures.cases.0, c.moving.left.ok.0)) in
     let s = c.moving.sides in
     sided_all c.args.b.now (vectors c.args.rays.items) (vectors s.above.items) (vectors s.level.items) (vectors s.below.items)
     (subst (λ (u : List Ray). IsSidedTo c.args.b.now (vectors c.args.rays.items) (vectors u) (vectors s.above.items) (vectors s.level.items) (vectors s.below.items)) empty c.moving.invariant.sided)
