@@ -1,5 +1,5 @@
 -- Blends added one after another, and vectors moved.
-use Rattle.std.proofs.Common.{◌≡◌, ◌⊎◌, ℕ, ◌+◌, ◌<◌, List, [], ◌∷◌, ◌++◌, length, take, get_or, refl, sym, subst, arith, inl, inr}
+use Rattle.std.proofs.Common.{◌≡◌, ◌⊎◌, ℕ, ◌+◌, ◌<◌, List, [], ◌∷◌, ◌++◌, length, take, get_or, sym, subst, arith, inl, inr}
 use Rattle.std.proofs.Math.IntN.{pos}
 use Rattle.std.specs.Prelude.{◌↔◌, ◌<ℤ◌, All, Contains}
 use Rattle.std.proofs.lemmas.List.Elements.{All-push, All-same, Contains-push, Contains-push_cases, Contains-append_left}

@@ -1,5 +1,5 @@
 -- The marks that two vectors share, counted.
-use Rattle.std.proofs.Common.{◌≡◌, ◌⊎◌, ℕ, zero, suc, ◌+◌, ◌*◌, ◌/◌, ◌%◌, ◌^◌, ◌<◌, ◌≤◌, List, [], ◌∷◌, ◌++◌, length, get_or, drop, map, refl, sym, ◌∙◌, ap, subst, arith, inl, inr, length-append}
+use Rattle.std.proofs.Common.{◌≡◌, ℕ, zero, suc, ◌+◌, ◌*◌, ◌/◌, ◌%◌, ◌^◌, ◌<◌, ◌≤◌, List, [], ◌∷◌, ◌++◌, length, get_or, drop, map, refl, sym, ◌∙◌, ap, subst, arith, inl, inr, length-append}
 use Rattle.std.specs.Prelude.{All}
 use Rattle.std.proofs.lemmas.List.{length-map, drop_more}
 use Rattle.std.specs.Int.{bit_at}
@@ -14,7 +14,7 @@ use Rattle.git_geometry.specs.Zeros.{ZeroOnBoth}
 use Rattle.git_stages.specs.Short.{IsShort}
 use Rattle.git_stages.proofs.Fronts.{any_default}
 use Rattle.git_dd.proofs.Bits.{less, both_each, has_within}
-use Rattle.git_dd.specs.Marks.{HasMark, IsMarked, shared}
+use Rattle.git_dd.specs.Marks.{IsMarked, shared}
 use Rattle.git_dd.specs.Sides.{HasZeros}
 
 -- ---- the places of the set bits of a number

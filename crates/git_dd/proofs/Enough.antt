@@ -1,6 +1,6 @@
 -- The inequalities at which two neighbours are both 0 are at least k - 2.
-use Rattle.std.proofs.Common.{◌≡◌, ◌⊎◌, ◌+◌, ◌*◌, ◌≤◌, ◌<◌, ℕ, zero, suc, List, [], ◌∷◌, length, refl, sym, ◌∙◌, ap, subst, arith, inl, inr}
-use Rattle.std.proofs.Math.IntN.{ℤ, pos, negsuc, ◌+ℤ◌, ◌*ℤ◌, *ℤ-zero, pos-*ℤ-pos}
+use Rattle.std.proofs.Common.{◌≡◌, ◌+◌, ◌*◌, ◌≤◌, ℕ, zero, suc, List, [], ◌∷◌, length, refl, sym, ◌∙◌, ap, subst, arith, inl, inr}
+use Rattle.std.proofs.Math.IntN.{ℤ, pos, negsuc, ◌+ℤ◌, ◌*ℤ◌, pos-*ℤ-pos}
 use Rattle.std.proofs.lemmas.Int.{ints}
 use Rattle.std.specs.Prelude.{◌≤ℤ◌}
 use Rattle.std.specs.Int.RustNames.{unsigned_abs}
@@ -13,7 +13,7 @@ use Rattle.git_lemmas.specs.Members.{Member}
 use Rattle.git_lemmas.proofs.Integers.{mul_nonneg}
 use Rattle.git_geometry.proofs.Cuts.{cut_of, side_at}
 use Rattle.git_geometry.proofs.Elimination.{LevelAt, level_closed}
-use Rattle.git_geometry.proofs.Faces.{FaceIn, face_closed, flat_left, flat_right}
+use Rattle.git_geometry.proofs.Faces.{FaceIn, face_closed}
 use Rattle.git_geometry.proofs.Identities.{dot-scale_zero}
 use Rattle.git_geometry.proofs.Independence.{chosen_member}
 use Rattle.git_geometry.proofs.Ranks.{rank_or_zero}
