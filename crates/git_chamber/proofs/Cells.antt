@@ -13,7 +13,7 @@ use Rattle.git_stages.proofs.Uniqueness.{wide_not_never}
 use Rattle.git_canon.specs.Canons.{Described, IsCanonOf}
 use Rattle.git_orbit.specs.Orbits.{Fan, IsFan}
 use Rattle.git_orbit.specs.Signatures.{InChamber, IsLegal, IsSignature}
-use Rattle.git_orbit.proofs.Fans.{fan_few}
+use Rattle.git_orbit.proofs.Fans.{few_cones}
 use Rattle.git_chamber.specs.Views.{IsSized}
 use Rattle.git_chamber.specs.Chambers.{AreWalls, IsCell, IsChamber, IsLeastDifference, IsNarrow}
 use Rattle.git_chamber.specs.declared.cell.Cell.TheVariants.{Crossed, Good}
@@ -26,7 +26,7 @@ one_walls fan sig us vs p q = sorted_once us vs (ascending_of us p.ordered) (asc
     (λ x m. contains_member x us ((p.each x).1 ((q.each x).0 (member_contains x vs m))))
 
 pub few_words : (fan : Fan) (sig : Signature) → IsFan fan.k fan.list → IsLegal fan sig → length sig ≤ 1024
-few_words fan sig is legal = let n = fan_few fan.k fan.list is in let w = legal.is.width in omega (arith, n, w)
+few_words fan sig is legal = let n = few_cones fan.k fan.list is in let w = legal.is.width in omega (arith, n, w)
 
 pub sizes : (k : ℕ) (rays facets : List Vector) → length rays ≤ 65536 → All (IsShort k) rays → All (IsShort k) facets → IsSized rays facets
 sizes k rays facets few r f = record { few = few; rays_small = λ i d h. (r i d h).within; facets_small = λ i d h. (f i d h).within }

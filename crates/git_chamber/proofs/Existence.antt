@@ -16,16 +16,13 @@ use Rattle.git_geometry.proofs.Polynomials.{sign_cases}
 use Rattle.git_geometry.proofs.Rays.{dual_along, dual_cut, rays_along, same_back, same_through}
 use Rattle.git_machine.specs.Signatures.{Has, Signature, has_number}
 use Rattle.git_machine.proofs.Words.{equal_sets, has_one, within}
-use Rattle.git_stages.specs.Prepared.{IsSortedSet}
 use Rattle.git_stages.specs.Wide.{NeverWide}
 use Rattle.git_stages.proofs.Decided.{wide_decided}
 use Rattle.git_stages.proofs.Exist.{rays_exist}
-use Rattle.git_stages.proofs.Listed.{listed, pairs_of}
 use Rattle.git_orbit.specs.Orbits.{Fan, IsFan}
 use Rattle.git_orbit.specs.Signatures.{IsLegal, IsSignature, facets_at}
 use Rattle.git_orbit.proofs.Existence.{a_signature}
 use Rattle.git_chamber.specs.Chambers.{AreCrossings, AreWalls, IsBehind, IsCell, IsChamber, IsFirstNegative, IsLeastDifference, IsNarrow, IsNext, LeadsOn, crossing}
-use Rattle.git_chamber.specs.Gathering.{Gathers}
 use Rattle.git_chamber.specs.Nexts.{crossing_ends, facets_have, rays_have}
 use Rattle.git_chamber.specs.declared.cell.Cell.{Cell}
 use Rattle.git_chamber.specs.declared.cell.Cell.TheVariants.{Crossed, Good, Wide}
@@ -33,37 +30,8 @@ use Rattle.git_chamber.specs.declared.cell.Side.{Side}
 use Rattle.git_chamber.specs.declared.cell.Side.TheVariants.{Boundary, Inner}
 use Rattle.git_chamber.proofs.Cells.{chamber_of_walls, narrow_signature}
 use Rattle.git_chamber.proofs.Crossings.{boundary_behind, inner_behind}
-use Rattle.git_chamber.proofs.Facets.{cone_facets, gathers_adds, gathers_none, gathers_skips, walls_have, walls_of_gathered, walls_rank}
-
--- ---- the walls
-pub has_or_not : (sig : Signature) (i : ℕ) → Has sig i ⊎ (Has sig i → ⊥)
-has_or_not sig i = by (has_number sig i) refl where
-  by : (b : Bool) → has_number sig i ≡ b → Has sig i ⊎ (Has sig i → ⊥)
-  by true e = inl e
-  by false e = inr (λ h. let f : true ≡ false = sym h ∙ e in cc f)
-
-gathered : (fan : Fan) (sig : Signature) → IsFan fan.k fan.list → (i : ℕ) → i ≤ length fan.list → (all : List Vector) × Gathers fan sig i all
-gathered fan sig is zero low = ([], gathers_none fan sig)
-gathered fan sig is (suc i) low =
-    let before = gathered fan sig is i (omega (arith, low)) in
-    let e : i + 1 ≡ suc i = omega arith in
-    elim (has_or_not sig i) [
-      | inl has ↦ (
-        before.0 ++ facets_at fan i,
-        subst (λ m. Gathers fan sig m (before.0 ++ facets_at fan i)) e (gathers_adds fan sig i before.0 (facets_at fan i) has refl (cone_facets fan is i (omega (arith, low))).few before.1),
-      )
-      | inr out ↦ (before.0, subst (λ m. Gathers fan sig m before.0) e (gathers_skips fan sig i before.0 out before.1))
-    ]
-
-pub walls_exist : (fan : Fan) (sig : Signature) → IsFan fan.k fan.list → IsLegal fan sig → (walls : List Vector) × AreWalls fan sig walls
-walls_exist fan sig is legal =
-    let g = gathered fan sig is (length fan.list) (omega arith) in
-    let l = listed g.0 in
-    let s : IsSortedSet g.0 l.list = record {
-      sorted = pairs_of l.list l.ascending;
-      each = λ x. (λ c. member_contains x g.0 (l.to x (contains_member x l.list c)), λ c. member_contains x l.list (l.back x (contains_member x g.0 c)));
-    } in
-    (l.list, walls_of_gathered fan sig is legal g.0 l.list g.1 s)
+use Rattle.git_chamber.proofs.Facets.{cone_facets, walls_have, walls_rank}
+use Rattle.git_chamber.proofs.Gatherings.{has_or_not, walls_exist}
 
 -- ---- rays and facets
 pub facets_exist : (k : ℕ) (walls : List Vector) → (facets : List Vector) × AreFacets k (Cut k walls) facets

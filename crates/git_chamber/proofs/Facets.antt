@@ -1,10 +1,10 @@
 -- The facets of a fan's cones, and the walls of a signature.
-use Rattle.std.proofs.Common.{◌≡◌, ◌≢◌, ℕ, ◌+◌, ◌^◌, ◌<◌, ◌≤◌, List, [], ◌++◌, length, length-append, sym, ◌∙◌, ap, subst, arith, inl, inr}
-use Rattle.std.specs.Prelude.{All, Contains, ◌<ℤ◌}
+use Rattle.std.proofs.Common.{◌≡◌, ◌≢◌, ◌⊎◌, ◌↔◌, ◌∷◌, get_or, refl, ℕ, ◌+◌, ◌^◌, ◌<◌, ◌≤◌, List, [], ◌++◌, length, length-append, sym, ◌∙◌, ap, subst, arith, inl, inr}
+use Rattle.std.specs.Prelude.{All, AllPairs, Contains, ◌<ℤ◌}
 use Rattle.std.proofs.Math.IntN.{pos}
 use Rattle.std.proofs.lemmas.Bool.{cases_lt}
 use Rattle.std.proofs.lemmas.List.Elements.{Contains-append_left, Contains-append_right, Contains-append_cases}
-use Rattle.git_defs.specs.Vectors.{Vector, zero_vector, dot, HasRank}
+use Rattle.git_defs.specs.Vectors.{Vector, Precedes, zero_vector, dot, HasRank}
 use Rattle.git_defs.specs.Cones.{Cut, Dual, InCone, SameSet}
 use Rattle.git_defs.specs.Faces.{face}
 use Rattle.git_defs.proofs.Lengths.{OfLength, all_of_length}
@@ -14,18 +14,20 @@ use Rattle.git_minors.proofs.Parts.{face_of_length}
 use Rattle.git_geometry.specs.Germs.{HasInside}
 use Rattle.git_geometry.proofs.Cuts.{cut_of, side_at}
 use Rattle.git_geometry.proofs.Inside.{inside_of_germ}
+use Rattle.git_geometry.proofs.Sorted.{Ascending, ascending_of}
 use Rattle.git_geometry.proofs.Rays.{dual_cut, rays_along}
 use Rattle.git_geometry.proofs.Signs.{holds_along}
 use Rattle.git_machine.specs.Signatures.{Signature, Has}
 use Rattle.git_stages.specs.Short.{IsShort}
-use Rattle.git_stages.specs.Prepared.{IsSortedSet}
 use Rattle.git_canon.specs.Canons.{HasInsideOf}
 use Rattle.git_orbit.specs.Orbits.{Fan, IsFan}
-use Rattle.git_orbit.specs.Signatures.{facets_at, IsLegal, InChamber}
-use Rattle.git_orbit.proofs.Fans.{fan_few, read_cone}
+use Rattle.git_stages.proofs.Fronts.{any_default}
+use Rattle.git_stages.proofs.Listed.{pairs_of}
+use Rattle.git_orbit.specs.Index.{AreNormals}
+use Rattle.git_orbit.specs.Signatures.{facets_at, IsLegal, IsWall, InChamber}
+use Rattle.git_orbit.proofs.Fans.{few_cones, read_cone}
 use Rattle.git_orbit.proofs.Signatures.{chamber_holds_germ}
 use Rattle.git_chamber.specs.Chambers.{AreWalls}
-use Rattle.git_chamber.specs.Gathering.{Gathers}
 use Rattle.git_chamber.proofs.Few.{few_rays}
 
 -- the facets of one cone of a fan
@@ -55,53 +57,73 @@ cone_facets fan is i low =
 pub fan_seen : {fan : Fan} {inside : Fan} → inside ≡ fan → IsFan inside.k inside.list → IsFan fan.k fan.list
 fan_seen view is = subst (λ (f : Fan). IsFan f.k f.list) view is
 
--- ---- gathering
-pub gathers_none : (fan : Fan) (sig : Signature) → Gathers fan sig 0 []
-gathers_none fan sig = record { each = λ n. (λ h. absurd (let l = h.1 in omega (arith, l)), λ p. absurd (let l = p.1 in omega (arith, l))); few = omega arith }
+-- ---- those of the normals that are walls
+-- the walls among the first so many normals
+pub record AreWallsBelow (fan : Fan) (sig : Signature) (normals : List Vector) (count : ℕ) (walls : List Vector) : Type 0 where
+  pub ordered : AllPairs Precedes walls
+  pub each : (n : Vector) → Contains walls n ↔ ((p : ℕ) × (p < count) × (get_or normals p [] ≡ n) × IsWall fan sig n)
 
-pub gathers_skips : (fan : Fan) (sig : Signature) (i : ℕ) (all : List Vector) → (Has sig i → ⊥) → Gathers fan sig i all → Gathers fan sig (i + 1) all
-gathers_skips fan sig i all out g = record {
-  each = λ n. (
-    λ h. (let p = (g.each n).0 h in (p.0, omega (arith, p.1), p.2, p.3)),
+pub no_walls : (fan : Fan) (sig : Signature) (normals : List Vector) → AreWallsBelow fan sig normals 0 []
+no_walls fan sig normals = record { ordered = λ i j d low in_range. absurd (omega (arith, in_range)); each = λ n. (λ h. absurd (let l = h.1 in omega (arith, l)), λ p. absurd (let l = p.1 in omega (arith, l))) }
+
+member_last : (vs : List Vector) (n y : Vector) → Member y (vs ++ n ∷ []) → Member y vs ⊎ (n ≡ y)
+member_last [] n y m = elim m [ inl e ↦ inr e | inr o ↦ absurd o ]
+member_last (v ∷ vs) n y m = elim m [ inl e ↦ inl (inl e) | inr o ↦ elim (member_last vs n y o) [ inl p ↦ inl (inr p) | inr e ↦ inr e ] ]
+
+ascending_last : (vs : List Vector) (n : Vector) → Ascending vs → ((y : Vector) → Member y vs → Precedes y n) → Ascending (vs ++ n ∷ [])
+ascending_last [] n a before = (λ y m. absurd m, tt)
+ascending_last (v ∷ vs) n a before = (
+  λ y m. elim (member_last vs n y m) [ inl o ↦ a.0 y o | inr e ↦ subst (Precedes v) e (before v (inl refl)) ],
+  ascending_last vs n a.1 (λ y m. before y (inr m)),
+)
+
+pub wall_more : (fan : Fan) (sig : Signature) (normals walls : List Vector) (i : ℕ) (n : Vector) → AllPairs Precedes normals → i < length normals → get_or normals i [] ≡ n → IsWall fan sig n
+    → AreWallsBelow fan sig normals i walls → AreWallsBelow fan sig normals (i + 1) (walls ++ n ∷ [])
+wall_more fan sig normals walls i n sorted low at wall w = record {
+  ordered = pairs_of (walls ++ n ∷ []) (ascending_last walls n (ascending_of walls w.ordered) (λ y m.
+      let p = (w.each y).0 (member_contains y walls m) in
+      subst (λ (v : Vector). Precedes v n) p.2 (subst (Precedes (get_or normals p.0 [])) at (sorted p.0 i [] p.1 low))));
+  each = λ m. (
+    λ h. elim (member_last walls n m (contains_member m (walls ++ n ∷ []) h)) [
+      | inl o ↦ (let p = (w.each m).0 (member_contains m walls o) in (p.0, (let l = p.1 in omega (arith, l)), p.2, p.3))
+      | inr e ↦ (i, omega arith, at ∙ e, subst (IsWall fan sig) e wall)
+    ],
     λ p. elim (cases_lt p.0 i) [
-      | inl below ↦ (g.each n).1 (p.0, below, p.2, p.3)
-      | inr here ↦ (let e : p.0 ≡ i = (let q = p.1 in omega arith) in absurd (out (subst (Has sig) e p.2)))
+      | inl below ↦ Contains-append_left walls (n ∷ []) m ((w.each m).1 (p.0, below, p.2, p.3))
+      | inr past ↦ (let e : i ≡ p.0 = (let l = p.1 in omega (arith, l, past)) in
+          let same : n ≡ m = sym at ∙ ap (λ (q : ℕ). get_or normals q []) e ∙ p.2 in
+          Contains-append_right walls (n ∷ []) m (member_contains m (n ∷ []) (inl same)))
     ],
   );
-  few = (let f = g.few in omega (arith, f));
 }
 
-pub gathers_adds : (fan : Fan) (sig : Signature) (i : ℕ) (all more : List Vector) → Has sig i → more ≡ facets_at fan i → length more ≤ 65536 → Gathers fan sig i all → Gathers fan sig (i + 1) (all ++ more)
-gathers_adds fan sig i all more inside is small g = record {
-  each = λ n. (
-    λ h. elim (Contains-append_cases all more n h) [
-      | inl old ↦ (let p = (g.each n).0 old in (p.0, omega (arith, p.1), p.2, p.3))
-      | inr new ↦ (i, omega arith, inside, subst (λ (l : List Vector). Contains l n) is new)
-    ],
+pub wall_less : (fan : Fan) (sig : Signature) (normals walls : List Vector) (i : ℕ) → (IsWall fan sig (get_or normals i []) → ⊥)
+    → AreWallsBelow fan sig normals i walls → AreWallsBelow fan sig normals (i + 1) walls
+wall_less fan sig normals walls i none w = record {
+  ordered = w.ordered;
+  each = λ m. (
+    λ h. let p = (w.each m).0 h in (p.0, (let l = p.1 in omega (arith, l)), p.2, p.3),
     λ p. elim (cases_lt p.0 i) [
-      | inl below ↦ Contains-append_left all more n ((g.each n).1 (p.0, below, p.2, p.3))
-      | inr here ↦ (let e : p.0 ≡ i = (let q = p.1 in omega arith) in
-          Contains-append_right all more n (subst (λ (l : List Vector). Contains l n) (ap (facets_at fan) e ∙ sym is) p.3))
+      | inl below ↦ (w.each m).1 (p.0, below, p.2, p.3)
+      | inr past ↦ (let e : p.0 ≡ i = (let l = p.1 in omega (arith, l, past)) in
+          absurd (none (subst (IsWall fan sig) (sym p.2 ∙ ap (λ (q : ℕ). get_or normals q []) e) p.3)))
     ],
   );
-  few = (let f = g.few in let a = length-append all more in omega (arith, f, a, small));
 }
 
 module _ (fan : Fan) (sig : Signature) (is : IsFan fan.k fan.list) (legal : IsLegal fan sig) where
   pub in_range : (i : ℕ) → Has sig i → i < length fan.list
   in_range i has = ((legal.is.each i).0 has).0
 
-  pub walls_of_gathered : (all walls : List Vector) → Gathers fan sig (length fan.list) all → IsSortedSet all walls → AreWalls fan sig walls
-  walls_of_gathered all walls g s = record {
-    ordered = s.sorted;
+  pub walls_of_normals : (normals walls : List Vector) (count : ℕ) → count ≡ length normals → AreNormals fan normals → AreWallsBelow fan sig normals count walls → AreWalls fan sig walls
+  walls_of_normals normals walls count end are w = record {
+    ordered = w.ordered;
     each = λ n. (
-      λ h. (let p = (g.each n).0 ((s.each n).0 h) in (p.0, p.2, p.3)),
-      λ p. (s.each n).1 ((g.each n).1 (p.0, in_range p.0 p.1, p.1, p.2)),
+      λ h. (((w.each n).0 h).3),
+      λ p. let at = (are.each n).1 (p.0, in_range p.0 p.1, p.2) in
+      let low = at.1 in (w.each n).1 (at.0, omega (arith, low, end), any_default normals at.0 [] n low ∙ at.2, p),
     );
   }
-
-  pub few_walls : (all walls : List Vector) → Gathers fan sig (length fan.list) all → length walls ≤ length all → length walls < 2 ^ 32
-  few_walls all walls g s = let f = g.few in let n = fan_few fan.k fan.list is in omega (arith, f, n, s)
 
   module _ (walls : List Vector) (are : AreWalls fan sig walls) where
     facets_of_wall : (n : Vector) → Member n walls → (i : ℕ) × Has sig i × Member n (facets_at fan i)

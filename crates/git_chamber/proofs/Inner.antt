@@ -25,7 +25,7 @@ use Rattle.git_chamber.specs.Views.{FanChamber}
 use Rattle.git_chamber.specs.Chambers.{IsBehind, IsChamber, IsGood, crossing}
 use Rattle.git_chamber.specs.Nexts.{crossing_ends, facets_have, rays_have}
 use Rattle.git_chamber.specs.declared.cell.Side.TheVariants.{Inner}
-use Rattle.git_chamber.proofs.Existence.{walls_exist}
+use Rattle.git_chamber.proofs.Gatherings.{walls_exist}
 use Rattle.git_chamber.proofs.Facets.{cone_facets, walls_cut, walls_have, walls_point, walls_rank}
 
 module _ (fan : Fan) (sig : Signature) (is : IsFan fan.k fan.list) (legal : IsLegal fan sig) where

@@ -3,6 +3,7 @@ pub mod UnitGerms
 pub mod Few
 pub mod Graphs
 pub mod Facets
+pub mod Gatherings
 pub mod Cells
 pub mod Crossings
 pub mod Firsts

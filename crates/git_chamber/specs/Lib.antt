@@ -1,7 +1,6 @@
 pub mod Views
 pub mod Chambers
 pub mod Faults
-pub mod Gathering
 pub mod Listings
 pub mod Nexts
 pub mod Laws

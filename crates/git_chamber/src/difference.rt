@@ -11,6 +11,9 @@ pub fn difference(a: &Sig, b: &Sig) -> Option<u32>
     ensures none { IsNone result → a.now ≡ b.now }
     ensures some { IfSome result (λ n. IsLeastDifference a.now b.now n) }
 {
+    if a.same(b) {
+        return None;
+    }
     for n in 0..64 * a.width().min(b.width()) as u32 {
         if a.has(n) != b.has(n) {
             return Some(n);

@@ -5,14 +5,13 @@ ghost use Rattle.git_stages.specs.Short.{IsShort};
 ghost use Rattle.git_canon.specs.Canons.{HasInsideOf};
 ghost use Rattle.git_orbit.specs.Signatures.{IsLegal, facets_at};
 ghost use Rattle.git_chamber.specs.Chambers.{AreWalls};
-ghost use Rattle.git_chamber.specs.Gathering.{Gathers};
 
 use git_base::NoMemory;
 use git_canon::Canon;
 use git_ints::IVec;
 use git_machine::Sig;
 use git_orbit::Cones;
-use git_stages::{append, sorted_set};
+use git_stages::add;
 use std::alloc::Global;
 
 /// The facets of a cone.
@@ -31,19 +30,6 @@ pub fn facets_of(cones: &Cones, i: usize) -> &[IVec]
     normals(&cones.list[i].canon)
 }
 
-/// The facets of the signature's cones, one cone after the other.
-fn gathered(alloc: Global, cones: &Cones, sig: &Sig) -> Result<Vec<IVec>, NoMemory>
-    ensures { IfOk result (λ v. Gathers cones.now sig.now (length cones.now.list) v.items) }
-{
-    let mut all = Vec::new(alloc);
-    for i in 0..cones.list.len() {
-        if sig.has(i as u32) {
-            append(&mut all, facets_of(cones, i))?;
-        }
-    }
-    Ok(all)
-}
-
 /// The sorted distinct facets of the signature's cones.
 pub fn walls(alloc: Global, cones: &Cones, sig: &Sig) -> Result<Vec<IVec>, NoMemory>
     requires { IsLegal cones.now sig.now }
@@ -54,6 +40,12 @@ pub fn walls(alloc: Global, cones: &Cones, sig: &Sig) -> Result<Vec<IVec>, NoMem
     ensures inside { IfOk result (λ v. HasInsideOf cones.now.k v.items) }
 {
     let _cones = &cones.list;
-    let all = gathered(alloc, cones, sig)?;
-    Ok(sorted_set(all))
+    let normals = cones.normals();
+    let mut walls = Vec::new(alloc);
+    for p in 0..normals.len() {
+        if cones.is_wall(p, sig) {
+            add(&mut walls, normals[p])?;
+        }
+    }
+    Ok(walls)
 }

@@ -1,17 +1,30 @@
 -- Words by their bits, and the words of a signature.
-use Rattle.std.proofs.Common.{◌≡◌, ◌↔◌, ◌∙◌, ◌+◌, ◌-◌, ◌*◌, ◌/◌, ◌%◌, ◌^◌, ◌<◌, ◌≤◌, Bool, true, false, if◌then◌else◌, IsTrue, List, [], ◌∷◌, ◌++◌, ap, arith, get_or, inl, inr, length, min, refl, slice_index, subst, suc, sym, zero, ℕ}
+use Rattle.std.proofs.Common.{◌≡◌, ◌↔◌, ◌∙◌, ◌+◌, ◌-◌, ◌*◌, ◌/◌, ◌%◌, ◌^◌, ◌<◌, ◌≤◌, IsTrue, List, [], ◌∷◌, ◌++◌, ap, arith, get_or, inl, inr, length, min, slice_index, subst, suc, sym, zero, ℕ}
 use Rattle.std.proofs.Math.Nat.{pow-le-pow_right, pow-suc}
-use Rattle.std.proofs.lemmas.Nat.{pow_pos}
 use Rattle.std.proofs.lemmas.Bool.{cases_lt, eq-eqb, eqb-true}
 use Rattle.std.proofs.Math.ListN.{get_or-append}
-use Rattle.std.proofs.lemmas.List.{get_or_default, get_or_past, get_or_push}
+use Rattle.std.proofs.lemmas.List.{get_or_default, get_or_push}
 use Rattle.git_bits.proofs.Bits.{no_high_bit}
 use Rattle.git_bits.specs.Bits.{has_bit}
 use Rattle.git_defs.specs.Vectors.{Vector}
 use Rattle.git_machine.specs.Signatures.{Signature, AreWords, Has}
 use Rattle.git_orbit.specs.Orbits.{Fan}
-use Rattle.git_orbit.specs.Signatures.{IsSignature, width_of}
-use Rattle.git_orbit.specs.Words.{HasBits, IsWord, HoldsAt}
+use Rattle.git_orbit.specs.Signatures.{IsSignature, cone_in, width_of}
+use Rattle.git_geometry.specs.Germs.{Holds}
+use Rattle.git_orbit.proofs.NumberSets.{number_past}
+
+-- the lowest bits of the word say for which of so many numbers from base on P holds, and it has no others
+pub record HasBits (P : ℕ → Type 0) (base count word : ℕ) : Type 0 where
+  pub small : word < 2 ^ count
+  pub each : (j : ℕ) → j < count → IsTrue (has_bit word j) ↔ P (base + j)
+
+-- word i of the set of the numbers below the total for which P holds
+abbrev pub IsWord : (ℕ → Type 0) → ℕ → ℕ → ℕ → Type 0
+IsWord P total i word = HasBits P (64 * i) (min 64 (total - 64 * i)) word
+
+-- the cone with this number holds the germ
+abbrev pub HoldsAt : Fan → List Vector → ℕ → Type 0
+HoldsAt fan germ i = Holds fan.k (cone_in fan i) germ
 
 pub no_bits : (P : ℕ → Type 0) (base : ℕ) → HasBits P base 0 0
 no_bits P base = record { small = omega arith; each = λ j low. absurd (omega arith) }
@@ -39,26 +52,8 @@ one_bit P base count word bit few says bits = record {
           λ p. subst (λ m. IsTrue (has_bit m j)) (sym half) (old.1 (subst P (sym b) p)),
         )
 
--- the same in a loop from the last number down, by a Bool
-pub bit_before : (P : ℕ → Type 0) (base count j word new : ℕ) (bit : Bool) → j < count → IsTrue bit ↔ P (base + (count - 1 - j))
-    → new ≡ 2 * word + (if bit then 1 else 0) → HasBits P (base + (count - j)) j word → HasBits P (base + (count - (j + 1))) (j + 1) new
-bit_before P base count j word new bit low says is bits =
-    let at : base + (count - j) ≡ base + (count - (j + 1)) + 1 = omega arith in
-    let here : base + (count - 1 - j) ≡ base + (count - (j + 1)) = omega arith in
-    by bit is (subst (λ n. IsTrue bit ↔ P n) here says) (subst (λ n. HasBits P n j word) at bits)
-  where
-    by : (b : Bool) → new ≡ 2 * word + (if b then 1 else 0) → IsTrue b ↔ P (base + (count - (j + 1))) → HasBits P (base + (count - (j + 1)) + 1) j word
-        → HasBits P (base + (count - (j + 1))) (j + 1) new
-    by true e iff rest = subst (HasBits P (base + (count - (j + 1))) (j + 1)) (sym e) (one_bit P (base + (count - (j + 1))) j word 1 (omega arith) (λ _. iff.0 refl, λ p. refl) rest)
-    by false e iff rest = subst (HasBits P (base + (count - (j + 1))) (j + 1)) (sym e) (one_bit P (base + (count - (j + 1))) j word 0 (omega arith) (λ h. absurd (omega (arith, h)), λ p. absurd (let h : false ≡ true = iff.1 p in cc h)) rest)
-
 two : 0 < 2
 two = omega arith
-
-word_past : (words : Signature) (n : ℕ) → length words ≤ n / 64 → Has words n → ⊥
-word_past words n past has =
-    no_high_bit 0 (n % 64) (pow_pos (n % 64))
-    (subst (λ w. IsTrue (has_bit w (n % 64))) (get_or_past words (n / 64) 0 past) has)
 
 module _ (fan : Fan) (germ : List Vector) (words : Signature) (long : length words ≡ width_of fan)
     (each : (i : ℕ) → i < length words → IsWord (HoldsAt fan germ) (length fan.list) i (get_or words i 0)) where
@@ -72,7 +67,7 @@ module _ (fan : Fan) (germ : List Vector) (words : Signature) (long : length wor
 
   there : (n : ℕ) → Has words n → (n < length fan.list) × HoldsAt fan germ n
   there n has = elim (cases_lt (n / 64) (length words)) [
-    | inr past ↦ absurd (word_past words n past has)
+    | inr past ↦ absurd (number_past words n past has)
     | inl low ↦
         let w = each (n / 64) low in
         elim (cases_lt (n % 64) (min 64 (length fan.list - 64 * (n / 64)))) [

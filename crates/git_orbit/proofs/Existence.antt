@@ -11,11 +11,10 @@ use Rattle.git_geometry.specs.Germs.{sign_at}
 use Rattle.git_lemmas.proofs.Members.{all_member, member_all}
 use Rattle.git_lemmas.specs.Members.{Member}
 use Rattle.git_machine.specs.Signatures.{Signature}
-use Rattle.git_orbit.proofs.Bits.{no_bits, one_bit, signature_of_words, words_more}
+use Rattle.git_orbit.proofs.Bits.{HasBits, HoldsAt, IsWord, no_bits, one_bit, signature_of_words, words_more}
 use Rattle.git_orbit.proofs.Settled.{Decided}
 use Rattle.git_orbit.specs.Orbits.{Fan}
 use Rattle.git_orbit.specs.Signatures.{IsSignature, facets_at, width_of}
-use Rattle.git_orbit.specs.Words.{HasBits, HoldsAt, IsWord}
 
 -- ---- a set that is decided has its words
 module _ (P : ℕ → Type 0) (decide : (i : ℕ) → Decided (P i)) where

@@ -10,6 +10,8 @@ use Rattle.git_defs.specs.Vectors.{HasRank, Vector}
 use Rattle.git_lemmas.proofs.Members.{contains_member, member_contains}
 use Rattle.git_lemmas.specs.Members.{Member}
 use Rattle.git_minors.proofs.Parts.{face_even, face_with}
+use Rattle.git_machine.specs.Signatures.{Signature}
+use Rattle.git_orbit.specs.Index.{IsIndexed}
 use Rattle.git_orbit.specs.Orbits.{AreOrbitCones, Fan, IsFan, IsOrbitCone, greatest_of}
 use Rattle.git_orbit.specs.Signatures.{cone_in, facets_at}
 use Rattle.git_orbit.specs.declared.orbit.OrbitCone.{OrbitCone}
@@ -90,8 +92,8 @@ few_falling (x ∷ xs) n falling bound =
     ((bound m (inr o)).0, omega (arith, below, is)))
     in omega (arith, here.0, here.1, rest)
 
-pub fan_few : (k : ℕ) (list : List OrbitCone) → IsFan k list → length list < 65536
-fan_few k list is =
+pub few_cones : (k : ℕ) (list : List OrbitCone) → IsFan k list → length list < 65536
+few_cones k list is =
     let few = few_falling (greatest_of list) (2 ^ length is.columns - 1) is.cones.cones.descending (λ m o.
     let f = ((is.cones.cones.each m).0 (member_contains m (greatest_of list) o)).is_face in
     (positive m f.full, let r = f.in_range in omega (arith, r)))
@@ -105,6 +107,10 @@ fan_few k list is =
     positive : (m : ℕ) → HasRank k (face is.columns m) → 0 < m
     positive zero full = absurd (none_full k is.columns is.grading.matrix.some_rows full)
     positive (suc m) full = omega arith
+
+-- the same of cones with their index
+pub fan_few : (k : ℕ) (list : List OrbitCone) {normals : List Vector} {sets : List Signature} {all : Signature} → IsIndexed k list normals sets all → length list < 65536
+fan_few k list is = few_cones k list is.fan
 
 -- ---- the widest is first
 pub face_whole : (qs : List Vector) → face qs (2 ^ length qs - 1) ≡ qs

@@ -5,7 +5,9 @@ pub mod Sweeps
 pub mod Pairs
 pub mod FullMasks
 pub mod Signatures
+pub mod NumberSets
 pub mod Bits
+pub mod Indexes
 pub mod Fans
 pub mod Walls
 pub mod Existence

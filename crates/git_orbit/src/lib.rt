@@ -3,9 +3,11 @@
 
 mod faces;
 mod germ;
+mod index;
 mod keys;
 pub mod laws;
 mod orbit;
+mod sets;
 mod signs;
 mod words;
 

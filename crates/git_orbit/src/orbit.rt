@@ -6,10 +6,12 @@ ghost use Rattle.git_grading.specs.Gradings.{IsGrading};
 ghost use Rattle.git_ints.specs.Content.{IsPrimitivePart};
 ghost use Rattle.git_stages.specs.Short.{IsShort};
 ghost use Rattle.git_orbit.specs.Keys.{AreZipped};
-ghost use Rattle.git_orbit.specs.Orbits.{IsOne, AreFaces, Sieved, AreOrbitCones, IsConesFault, IsNewFault, IsOneFault, Fan, IsFan};
+ghost use Rattle.git_orbit.specs.Orbits.{IsOne, AreFaces, Sieved, AreOrbitCones, IsConesFault, IsNewFault, IsOneFault, Fan};
+ghost use Rattle.git_orbit.specs.Index.{IsIndexed};
 ghost use Rattle.git_orbit.specs.declared.orbit.OrbitCone.{OrbitCone};
 
 use crate::faces::{alongs, face_of, held, parts};
+use crate::index::{Index, indexed};
 use crate::keys::sweep;
 use git_base::NoMemory;
 use git_canon::{Canon, CanonFault};
@@ -33,6 +35,7 @@ pub struct OrbitCone {
 pub struct Cones {
     pub k: usize,
     pub list: Vec<OrbitCone>,
+    pub(crate) index: Index,
 }
 
 impl Model for Cones {
@@ -40,7 +43,7 @@ impl Model for Cones {
 
     ghost view = { λ c. record { k = c.k; list = c.list.items } };
 
-    ghost invariant = { λ c. IsFan c.k c.list.items };
+    ghost invariant = { λ c. IsIndexed c.k c.list.items c.index.normals.items c.index.sets.items c.index.all };
 }
 
 /// Why cones are not described.
@@ -212,10 +215,11 @@ impl Cones {
         let Ok(parts) = parts(alloc, k, columns) else {
             return Err(ConesFault::NoMemory);
         };
-        let list = sieved(alloc, k, columns, &parts, masks)?;
-        Ok(Cones {
-            k,
-            list: sorted(list),
-        })
+        let found = sieved(alloc, k, columns, &parts, masks)?;
+        let list = sorted(found);
+        let Ok(index) = indexed(alloc, k, &list) else {
+            return Err(ConesFault::NoMemory);
+        };
+        Ok(Cones { k, list, index })
     }
 }

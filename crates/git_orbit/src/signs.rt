@@ -28,7 +28,7 @@ pub fn sign(normal: &IVec, germ: &Germ) -> i32
 }
 
 /// Whether the normal has sign -1 at the germ.
-fn is_negative(normal: &IVec, germ: &Germ) -> bool
+pub fn is_negative(normal: &IVec, germ: &Germ) -> bool
     requires lengths { AllOfLength (length normal.now) germ.now }
     requires small { AreWithin (2 ^ 40) normal.now }
     ensures { IsTrue result ↔ (sign_at normal.now germ.now ≡ negsuc 0) }

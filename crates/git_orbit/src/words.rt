@@ -1,64 +1,49 @@
-//! Signatures of germs and of weights, a word at a time.
-ghost use Rattle.std.specs.Prelude.{◌≡◌, ◌↔◌, ◌≤◌, ◌<◌, ◌+◌, ◌-◌, ◌*◌, ◌^◌, [], ◌∷◌, ℕ, min, IfOk, IsTrue, length, if◌then◌else◌};
-ghost use Rattle.git_defs.specs.Vectors.{AllOfLength};
+//! Signatures of germs and of weights, by the distinct facets of the cones.
+ghost use Rattle.std.specs.Prelude.{◌≡◌, ◌↔◌, ◌<◌, ◌^◌, [], ◌∷◌, List, IfOk, IsTrue, length, get_or};
+ghost use Rattle.std.proofs.Math.IntN.{negsuc};
+ghost use Rattle.git_defs.specs.Vectors.{AllOfLength, Vector};
+ghost use Rattle.git_geometry.specs.Germs.{sign_at};
 ghost use Rattle.git_ints.specs.Padded.{AreWithin};
-ghost use Rattle.git_orbit.specs.Signatures.{IsSignature, cone_in};
-ghost use Rattle.git_orbit.specs.Words.{HasBits, HoldsAt, IsWord};
+ghost use Rattle.git_orbit.specs.Index.{AreNormals};
+ghost use Rattle.git_orbit.specs.Signatures.{IsSignature, IsWall};
 
 use crate::germ::Germ;
 use crate::orbit::Cones;
-use crate::signs::held;
+use crate::signs::is_negative;
 use git_base::NoMemory;
 use git_ints::IVec;
 use git_machine::Sig;
-use git_stages::add;
 use std::alloc::Global;
 
-/// A bit more, the lowest.
-fn with_bit(word: u64, bit: bool) -> u64
-    requires { word < 2 ^ 63 }
-    ensures { result ≡ 2 * word + (if bit then 1 else 0) }
-{
-    if bit { 2 * word + 1 } else { 2 * word }
-}
-
-/// Whether the cone with number `i` holds the germ.
-fn is_held(cones: &Cones, i: usize, germ: &Germ) -> bool
-    requires within { i < length cones.now.list }
-    requires lengths { AllOfLength cones.now.k germ.now }
-    ensures { IsTrue result ↔ HoldsAt cones.now germ.now i }
-{
-    held(&cones.list[i].canon, germ)
-}
-
-/// The word of the 64 cones from number `base` on, or of those that there are.
-fn word(cones: &Cones, base: usize, germ: &Germ) -> u64
-    requires within { base ≤ length cones.now.list }
-    requires lengths { AllOfLength cones.now.k germ.now }
-    ensures { HasBits (HoldsAt cones.now germ.now) base (min 64 (length cones.now.list - base)) result }
-{
-    let count = (cones.list.len() - base).min(64);
-    let mut word = 0u64;
-    for j in 0..count {
-        let bit = is_held(cones, base + (count - 1 - j), germ);
-        word = with_bit(word, bit);
-    }
-    word
-}
-
 impl Cones {
+    /// The distinct facets of the cones, in order.
+    pub fn normals(&self) -> &[IVec]
+        ensures { AreNormals self.now result.now }
+    {
+        &self.index.normals
+    }
+
+    /// Whether the normal at a place, counted from 0, is a facet of one of the signature's cones.
+    pub fn is_wall(&self, place: usize, sig: &Sig) -> bool
+        requires { (normals : List Vector) → AreNormals self.now normals → place < length normals }
+        ensures { (normals : List Vector) → AreNormals self.now normals → (IsTrue result ↔ IsWall self.now sig.now (get_or normals place [])) }
+    {
+        self.index.sets[place].meets(sig)
+    }
+
     /// The set of the numbers of the cones that hold the germ, whose vectors have `k` entries. Its width
     /// is the number of cones over 64, rounded up.
     pub fn signature(&self, alloc: Global, germ: &Germ) -> Result<Sig, NoMemory>
         requires { AllOfLength self.now.k germ.now }
         ensures { IfOk result (λ s. IsSignature self.now germ.now s) }
     {
-        let total = self.list.len();
-        let mut words = Vec::new(alloc);
-        for w in 0..total.div_ceil(64) {
-            add(&mut words, word(self, 64 * w, germ))?;
+        let mut held = self.index.all.copied(alloc)?;
+        for p in 0..self.index.normals.len() {
+            if is_negative(&self.index.normals[p], germ) {
+                held.take_out(&self.index.sets[p]);
+            }
         }
-        Sig::of(alloc, words.as_slice())
+        Ok(held.into_sig())
     }
 
     /// The set of the numbers of the cones that hold the vector, which has `k` entries, each of at most

@@ -12,6 +12,6 @@ first_negative-requires-clause-normals c =
     let low : 0 < length c.cones.inside.list.items = grind (arith, common_steps) in
     let same = ap (λ (f : Fan). length f.list) c.cones.view_is in
     let some : 0 < length fan.list = omega (arith, low, same) in
-    let all = first_facets_short fan (fan_seen c.cones.view_is c.cones.invariant) some in
+    let all = first_facets_short fan (fan_seen c.cones.view_is c.cones.invariant.fan) some in
     let here = subst (All (IsShort fan.k)) (sym c.facets_of.ensures.value) all in
     subst (λ (k : ℕ). All (IsShort k) c.facets_of.result.now) (sym (ap (λ (f : Fan). f.k) c.cones.view_is)) here

@@ -10,21 +10,21 @@ use Rattle.git_chamber.proofs.describing.judged.Goals as goal
 
 pub sum-weight-requires-clause-few : goal.sum-weight-requires-clause-few
 sum-weight-requires-clause-few c =
-    let few = few_chamber_rays c.args.cones.now c.args.sig.now (fan_seen c.cones.view_is c.cones.invariant) c.requires.legal c.args.walls.now c.requires.walls c.args.canon.rays c.requires.narrow c.requires.canon.canon.are_rays in
+    let few = few_chamber_rays c.args.cones.now c.args.sig.now (fan_seen c.cones.view_is c.cones.invariant.fan) c.requires.legal c.args.walls.now c.requires.walls c.args.canon.rays c.requires.narrow c.requires.canon.canon.are_rays in
     subst (λ (vs : List Vector). length vs ≤ 65536) (sym (c.deref.ensures.value ∙ ap (λ (d : Described). d.rays) c.canon.view_is)) few
 
 pub difference-requires-clause-few : goal.difference-requires-clause-few
-difference-requires-clause-few c = few_words c.args.cones.now c.args.sig.now (fan_seen c.cones.view_is c.cones.invariant) c.requires.legal
+difference-requires-clause-few c = few_words c.args.cones.now c.args.sig.now (fan_seen c.cones.view_is c.cones.invariant.fan) c.requires.legal
 
 pub returns-in-Some-clause-fault : goal.returns-in-Some-clause-fault
 returns-in-Some-clause-fault c =
     let weight : c.sum-weight.result ≡ vector_sum c.args.cones.now.k c.args.canon.rays = search rules in
-    crossed_cell c.args.cones.now c.args.sig.now (fan_seen c.cones.view_is c.cones.invariant) c.requires.legal c.args.walls.now c.requires.walls c.args.canon c.requires.canon c.requires.narrow
+    crossed_cell c.args.cones.now c.args.sig.now (fan_seen c.cones.view_is c.cones.invariant.fan) c.requires.legal c.args.walls.now c.requires.walls c.args.canon c.requires.canon c.requires.narrow
     c.sum-weight.result weight c.in-Ok.own c.in-Ok.ensures.germ c.in-Some.cone c.in-Some.ensures.some
 
 pub invariant_of-result : goal.invariant_of-result
 invariant_of-result c =
-    let few = few_chamber_rays c.args.cones.now c.args.sig.now (fan_seen c.cones.view_is c.cones.invariant) c.requires.legal c.args.walls.now c.requires.walls c.args.canon.rays c.requires.narrow c.requires.canon.canon.are_rays in
+    let few = few_chamber_rays c.args.cones.now c.args.sig.now (fan_seen c.cones.view_is c.cones.invariant.fan) c.requires.legal c.args.walls.now c.requires.walls c.args.canon.rays c.requires.narrow c.requires.canon.canon.are_rays in
     let s = sizes c.args.cones.now.k c.args.canon.rays c.args.canon.facets few c.requires.canon.canonical.rays_short c.requires.canon.canonical.facets_short in
     subst (λ (d : Described). IsSized d.rays d.facets) (sym c.canon.view_is) s
 
@@ -33,6 +33,6 @@ returns-clause-good c =
     let fan = c.args.cones.now in
     let sig = c.args.sig.now in
     let weight : c.sum-weight.result ≡ vector_sum fan.k c.args.canon.rays = search rules in
-    let cell = good_cell fan sig (fan_seen c.cones.view_is c.cones.invariant) c.requires.legal c.args.walls.now c.requires.walls c.args.canon c.requires.canon c.requires.narrow
+    let cell = good_cell fan sig (fan_seen c.cones.view_is c.cones.invariant.fan) c.requires.legal c.args.walls.now c.requires.walls c.args.canon c.requires.canon c.requires.narrow
     c.sum-weight.result weight c.in-Ok.own c.in-Ok.ensures.germ (c.in_default-difference.ensures.none refl) in
     subst (λ (d : Described). IsCell fan sig (Good (record { sig = c.in-Ok.own; rays = d.rays; facets = d.facets; weight = c.sum-weight.result }))) (sym c.canon.view_is) cell

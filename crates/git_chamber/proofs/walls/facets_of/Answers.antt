@@ -8,7 +8,7 @@ use Rattle.git_chamber.proofs.walls.facets_of.Goals as goal
 pub returns-clause-few : goal.returns-clause-few
 returns-clause-few c =
     let fan = c.args.cones.now in
-    let facts = cone_facets fan (fan_seen c.cones.view_is c.cones.invariant) c.args.i c.requires in
-    let at = cone_seen fan c.cones.view_is c.cones.invariant c.args.i c.index.result.now c.requires c.index.ensures in
+    let facts = cone_facets fan (fan_seen c.cones.view_is c.cones.invariant.fan) c.args.i c.requires in
+    let at = cone_seen fan c.cones.view_is c.cones.invariant.fan c.args.i c.index.result.now c.requires c.index.ensures in
     let same : c.normals.result.now ≡ facets_at fan c.args.i = c.normals.ensures ∙ sym at.facets in
     subst (λ (vs : List Vector). length vs ≤ 65536) (sym same) facts.few

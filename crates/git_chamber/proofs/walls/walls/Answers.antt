@@ -1,18 +1,42 @@
-use Rattle.git_chamber.proofs.Facets.{fan_seen, few_walls, walls_inside, walls_of_gathered, walls_rank, walls_short}
+use Rattle.std.proofs.Common.{◌≡◌, ◌∙◌, ◌+◌, [], List, ap, arith, get_or, length, subst, sym, true, false}
+use Rattle.git_defs.specs.Vectors.{Vector}
+use Rattle.git_stages.proofs.Fronts.{any_default}
+use Rattle.git_chamber.proofs.Facets.{AreWallsBelow, fan_seen, no_walls, wall_less, wall_more, walls_inside, walls_of_normals, walls_rank, walls_short}
+use Rattle.git_chamber.proofs.Gatherings.{few_walls}
+use Rattle.git_chamber.proofs.walls.walls.Goals.{then-is_wall+in_ok-add, else-is_wall}
 use Rattle.git_chamber.proofs.walls.walls.Goals as goal
+
+pub loop-p-init : goal.loop-p-init
+loop-p-init c = subst (AreWallsBelow c.args.cones.now c.args.sig.now c.normals-normals.result.now 0) (sym c.new-walls.ensures.items) (no_walls c.args.cones.now c.args.sig.now c.normals-normals.result.now)
+
+pub loop-p-preserved : goal.loop-p-preserved
+loop-p-preserved c =
+    let fan = c.args.cones.now in
+    let sig = c.args.sig.now in
+    let normals = c.normals-normals.result.now in
+    let p = c.loop-p.p in
+    let wall = c.is_wall.ensures normals c.normals-normals.ensures in
+    elim c.if-is_wall.branch [
+      | then-is_wall+in_ok-add w ↦ (
+          let is = sym (ap (λ v. v.items) w.walls-is ∙ w.in_ok-add.ensures) in
+          ?)
+      | else-is_wall w ↦ subst (AreWallsBelow fan sig normals (p + 1)) (sym (ap (λ v. v.items) w.walls-is))
+          (wall_less fan sig normals c.loop-p.walls.items p (λ h. let f : true ≡ false = sym (wall.1 h) ∙ w.if-is_wall.false in cc f) c.loop-p.invariant)
+    ]
 
 pub returns-clause-walls : goal.returns-clause-walls
 returns-clause-walls c =
-    walls_of_gathered c.args.cones.now c.args.sig.now (fan_seen c.cones.view_is c.cones.invariant) c.requires c.in_ok-all.all.items c.sorted_set.result.items c.in_ok-all.ensures c.sorted_set.ensures.sorted
+    walls_of_normals c.args.cones.now c.args.sig.now (fan_seen c.cones.view_is c.cones.invariant.fan) c.requires c.normals-normals.result.now c.loop-p.walls.items c.loop-p.p
+    (omega (arith, c.loop-p-test.false, c.loop-p.auto.p-end)) c.normals-normals.ensures c.loop-p.invariant
 
 pub returns-clause-short : goal.returns-clause-short
-returns-clause-short c = walls_short c.args.cones.now c.args.sig.now (fan_seen c.cones.view_is c.cones.invariant) c.requires c.sorted_set.result.items (returns-clause-walls c)
+returns-clause-short c = walls_short c.args.cones.now c.args.sig.now (fan_seen c.cones.view_is c.cones.invariant.fan) c.requires c.loop-p.walls.items (returns-clause-walls c)
 
 pub returns-clause-few : goal.returns-clause-few
-returns-clause-few c = few_walls c.args.cones.now c.args.sig.now (fan_seen c.cones.view_is c.cones.invariant) c.requires c.in_ok-all.all.items c.sorted_set.result.items c.in_ok-all.ensures c.sorted_set.ensures.size
+returns-clause-few c = few_walls c.args.cones.now c.args.sig.now (fan_seen c.cones.view_is c.cones.invariant.fan) c.requires c.loop-p.walls.items (returns-clause-walls c)
 
 pub returns-clause-rank : goal.returns-clause-rank
-returns-clause-rank c = walls_rank c.args.cones.now c.args.sig.now (fan_seen c.cones.view_is c.cones.invariant) c.requires c.sorted_set.result.items (returns-clause-walls c)
+returns-clause-rank c = walls_rank c.args.cones.now c.args.sig.now (fan_seen c.cones.view_is c.cones.invariant.fan) c.requires c.loop-p.walls.items (returns-clause-walls c)
 
 pub returns-clause-inside : goal.returns-clause-inside
-returns-clause-inside c = walls_inside c.args.cones.now c.args.sig.now (fan_seen c.cones.view_is c.cones.invariant) c.requires c.sorted_set.result.items (returns-clause-walls c)
+returns-clause-inside c = walls_inside c.args.cones.now c.args.sig.now (fan_seen c.cones.view_is c.cones.invariant.fan) c.requires c.loop-p.walls.items (returns-clause-walls c)
