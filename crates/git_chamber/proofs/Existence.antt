@@ -1,5 +1,5 @@
 -- Something is told of each legal signature, and it leads on.
-use Rattle.std.proofs.Common.{◌≡◌, ◌≢◌, ◌⊎◌, ◌∙◌, ◌++◌, ◌∷◌, [], ◌+◌, ◌*◌, ◌<◌, ◌≤◌, Bool, List, ap, arith, false, inl, inr, length, map, refl, subst, suc, sym, true, zero, ℕ}
+use Rattle.std.proofs.Common.{◌≡◌, ◌≢◌, ◌⊎◌, ◌∙◌, ◌∷◌, [], ◌*◌, ◌<◌, List, ap, arith, inl, inr, length, map, refl, subst, suc, sym, zero, ℕ}
 use Rattle.std.proofs.Math.IntN.{negsuc}
 use Rattle.std.proofs.lemmas.Bool.{cases_lt}
 use Rattle.std.proofs.lemmas.Int.{ints}
@@ -8,13 +8,12 @@ use Rattle.std.specs.Prelude.{◌↔◌}
 use Rattle.git_defs.specs.Vectors.{AllOfLength, Vector, dot, vector_sum}
 use Rattle.git_defs.specs.Cones.{AreFacets, Cut, Dual, InCone}
 use Rattle.git_defs.proofs.Lengths.{OfLength, all_of_length, first_of_length, more_of_length, none_of_length, of_length_all, rest_of_length}
-use Rattle.git_lemmas.proofs.Members.{contains_member, member_contains}
 use Rattle.git_geometry.specs.Germs.{HasNoNegative, sign_at}
 use Rattle.git_geometry.proofs.Inside.{germ_of_length, length-vector_sum}
 use Rattle.git_geometry.proofs.Minkowski.{generators_of_length, generators_same, minkowski}
 use Rattle.git_geometry.proofs.Polynomials.{sign_cases}
 use Rattle.git_geometry.proofs.Rays.{dual_along, dual_cut, rays_along, same_back, same_through}
-use Rattle.git_machine.specs.Signatures.{Has, Signature, has_number}
+use Rattle.git_machine.specs.Signatures.{Has, Signature}
 use Rattle.git_machine.proofs.Words.{equal_sets, has_one, within}
 use Rattle.git_stages.specs.Wide.{NeverWide}
 use Rattle.git_stages.proofs.Decided.{wide_decided}
@@ -30,7 +29,7 @@ use Rattle.git_chamber.specs.declared.cell.Side.{Side}
 use Rattle.git_chamber.specs.declared.cell.Side.TheVariants.{Boundary, Inner}
 use Rattle.git_chamber.proofs.Cells.{chamber_of_walls, narrow_signature}
 use Rattle.git_chamber.proofs.Crossings.{boundary_behind, inner_behind}
-use Rattle.git_chamber.proofs.Facets.{cone_facets, walls_have, walls_rank}
+use Rattle.git_chamber.proofs.Facets.{walls_have, walls_rank}
 use Rattle.git_chamber.proofs.Gatherings.{has_or_not, walls_exist}
 
 -- ---- rays and facets

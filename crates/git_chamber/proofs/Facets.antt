@@ -1,9 +1,9 @@
 -- The facets of a fan's cones, and the walls of a signature.
-use Rattle.std.proofs.Common.{◌≡◌, ◌≢◌, ◌⊎◌, ◌↔◌, ◌∷◌, get_or, refl, ℕ, ◌+◌, ◌^◌, ◌<◌, ◌≤◌, List, [], ◌++◌, length, length-append, sym, ◌∙◌, ap, subst, arith, inl, inr}
+use Rattle.std.proofs.Common.{◌≡◌, ◌≢◌, ◌⊎◌, ◌↔◌, ◌∷◌, get_or, refl, ℕ, ◌+◌, ◌<◌, ◌≤◌, List, [], ◌++◌, length, sym, ◌∙◌, ap, subst, arith, inl, inr}
 use Rattle.std.specs.Prelude.{All, AllPairs, Contains, ◌<ℤ◌}
 use Rattle.std.proofs.Math.IntN.{pos}
 use Rattle.std.proofs.lemmas.Bool.{cases_lt}
-use Rattle.std.proofs.lemmas.List.Elements.{Contains-append_left, Contains-append_right, Contains-append_cases}
+use Rattle.std.proofs.lemmas.List.Elements.{Contains-append_left, Contains-append_right}
 use Rattle.git_defs.specs.Vectors.{Vector, Precedes, zero_vector, dot, HasRank}
 use Rattle.git_defs.specs.Cones.{Cut, Dual, InCone, SameSet}
 use Rattle.git_defs.specs.Faces.{face}
@@ -25,7 +25,7 @@ use Rattle.git_stages.proofs.Fronts.{any_default}
 use Rattle.git_stages.proofs.Listed.{pairs_of}
 use Rattle.git_orbit.specs.Index.{AreNormals}
 use Rattle.git_orbit.specs.Signatures.{facets_at, IsLegal, IsWall, InChamber}
-use Rattle.git_orbit.proofs.Fans.{few_cones, read_cone}
+use Rattle.git_orbit.proofs.Fans.{read_cone}
 use Rattle.git_orbit.proofs.Signatures.{chamber_holds_germ}
 use Rattle.git_chamber.specs.Chambers.{AreWalls}
 use Rattle.git_chamber.proofs.Few.{few_rays}
@@ -121,7 +121,7 @@ module _ (fan : Fan) (sig : Signature) (is : IsFan fan.k fan.list) (legal : IsLe
     each = λ n. (
       λ h. (((w.each n).0 h).3),
       λ p. let at = (are.each n).1 (p.0, in_range p.0 p.1, p.2) in
-      let low = at.1 in (w.each n).1 (at.0, omega (arith, low, end), any_default normals at.0 [] n low ∙ at.2, p),
+          let low = at.1 in (w.each n).1 (at.0, omega (arith, low, end), any_default normals at.0 [] n low ∙ at.2, p),
     );
   }
 

@@ -1,5 +1,5 @@
 //! The walls of a signature.
-ghost use Rattle.std.specs.Prelude.{◌≡◌, ◌≤◌, ◌<◌, ◌*◌, ◌^◌, ◌++◌, List, All, IfOk, length};
+ghost use Rattle.std.specs.Prelude.{◌≡◌, ◌≤◌, ◌<◌, ◌^◌, ◌++◌, ◌∷◌, [], All, IfOk, length};
 ghost use Rattle.git_defs.specs.Vectors.{HasRank};
 ghost use Rattle.git_stages.specs.Short.{IsShort};
 ghost use Rattle.git_canon.specs.Canons.{HasInsideOf};
@@ -30,6 +30,13 @@ pub fn facets_of(cones: &Cones, i: usize) -> &[IVec]
     normals(&cones.list[i].canon)
 }
 
+/// One wall more, the last.
+fn with_wall(walls: &mut Vec<IVec>, wall: &IVec) -> Result<(), NoMemory>
+    ensures { IfOk result (λ _. walls.new.items ≡ walls.old.items ++ wall.now ∷ []) }
+{
+    add(walls, *wall)
+}
+
 /// The sorted distinct facets of the signature's cones.
 pub fn walls(alloc: Global, cones: &Cones, sig: &Sig) -> Result<Vec<IVec>, NoMemory>
     requires { IsLegal cones.now sig.now }
@@ -44,7 +51,7 @@ pub fn walls(alloc: Global, cones: &Cones, sig: &Sig) -> Result<Vec<IVec>, NoMem
     let mut walls = Vec::new(alloc);
     for p in 0..normals.len() {
         if cones.is_wall(p, sig) {
-            add(&mut walls, normals[p])?;
+            with_wall(&mut walls, &normals[p])?;
         }
     }
     Ok(walls)
