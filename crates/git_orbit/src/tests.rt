@@ -1,5 +1,6 @@
 //! Cones of gradings worked by hand.
-ghost use Rattle.std.specs.Prelude.{◌≡◌, ◌≤◌, ◌^◌, IfOk, length};
+ghost use Rattle.std.specs.Prelude.{◌≡◌, ◌≤◌, ◌<◌, ◌^◌, IfOk, length};
+ghost use Rattle.git_defs.specs.Vectors.{AllOfLength};
 ghost use Rattle.git_grading.specs.Gradings.{IsMatrix};
 ghost use Rattle.git_ints.specs.Padded.{AreWithin};
 ghost use Rattle.git_orbit.specs.Orbits.{AreFaces};
@@ -103,6 +104,55 @@ fn three_columns_of_the_plane(rt: HostRuntime) -> Result<(), Fail> {
             found.signature_of_weight(alloc, &plane(x, y))?.words(),
             [word].as_slice()
         );
+    }
+    Ok(())
+}
+
+/// Whether the cone with number `i` holds the germ.
+fn is_held(cones: &Cones, i: usize, germ: &Germ) -> bool
+    requires within { i < length cones.now.list }
+    requires lengths { AllOfLength cones.now.k germ.now }
+{
+    held(&cones.list[i].canon, germ)
+}
+
+/// Whether the signature of a germ has just the cones that hold it, asked one by one.
+fn is_as_asked(alloc: Global, cones: &Cones, germ: &Germ) -> Result<bool, Fail>
+    requires { AllOfLength cones.now.k germ.now }
+{
+    let sig = cones.signature(alloc, germ)?;
+    for i in 0..64 * sig.width().min(1024) as u32 {
+        let at = i as usize;
+        if at < cones.list.len() && sig.has(i) != is_held(cones, at, germ) {
+            return Ok(false);
+        }
+    }
+    Ok(true)
+}
+
+/// Four columns: the signatures by distinct facets are those by cones one by one.
+#[test]
+fn signatures_are_as_asked(rt: HostRuntime) -> Result<(), Fail> {
+    let alloc = rt.alloc();
+    let columns = [
+        IVec::of(&[1, 0]),
+        IVec::of(&[1, 1]),
+        IVec::of(&[1, 2]),
+        IVec::of(&[0, 1]),
+    ]
+    .to_vec(alloc)?;
+    let found = cones(alloc, 2, columns, 16)??;
+    for (x, y, v, w) in [
+        (1, 0, 0, 1),
+        (1, 1, 1, 0),
+        (1, 1, 0, 1),
+        (1, 2, 0, 1),
+        (1, 2, 1, 0),
+        (-1, 2, 1, 0),
+        (0, 0, 3, 4),
+    ] {
+        let germ = Germ::of(&[plane(x, y), plane(v, w)]);
+        assert!(rt; is_as_asked(alloc, &found, &germ)?);
     }
     Ok(())
 }
