@@ -1,20 +1,24 @@
 -- What a crew found that ended quietly.
-use Rattle.std.proofs.Common.{◌≡◌, ℕ, zero, suc, ◌<◌, ◌≤◌, List, [], ◌∷◌, length, get_or, slice_index, refl, sym, ap, ◌∙◌, subst, arith}
-use Rattle.std.specs.List.{All, Contains}
+use Rattle.std.proofs.Common.{◌≡◌, false, ℕ, zero, suc, ◌<◌, ◌≤◌, List, [], ◌∷◌, length, get_or, slice_index, refl, sym, ap, ◌∙◌, subst, arith}
+use Rattle.std.specs.List.{All, AllPairs, Contains}
+use Rattle.std.specs.List.Sorted.{IsPermutation}
+use Rattle.std.specs.Ordering.{is_lt}
 use Rattle.std.proofs.lemmas.List.{length-map}
+use Rattle.std.proofs.lemmas.List.Sorted.{IsPermutation-map}
 use Rattle.std.proofs.lemmas.List.Elements.{All-map, All-weaker, All-contains}
 use mathlib.Core.Option.{some, some-injective, some-ne-none}
 use lib.ListN.{get_elem?}
 use native.Mathlib.Decide.{dec_lt}
 use Rattle.git_machine.specs.declared.successors.Found.{Found}
-use Rattle.git_machine.specs.Signatures.{Signature}
+use Rattle.git_machine.specs.Signatures.{Signature, signature_cmp}
 use Rattle.git_machine.specs.Reach.{Reached, IsReach, ReachExceeds}
 use Rattle.git_machine.proofs.Once.{once_again}
 use Rattle.git_visits.specs.Lists.{times}
 use Rattle.git_visits.proofs.Cuts.{times_pos}
 use Rattle.git_table.specs.Views.{FrontierView, SeatView}
 use Rattle.git_table.specs.Calls.{IsListing}
-use Rattle.git_plain.specs.Closing.{signatures_of}
+use Rattle.git_plain.specs.Closing.{InOrder, signatures_of}
+use Rattle.git_plain.proofs.Ordered.{reach_permuted, sorted_signatures, strictly}
 use Rattle.git_crew.specs.Members.{IsSound, IsKept}
 use Rattle.git_crew.proofs.Counting.{same_length}
 
@@ -69,3 +73,10 @@ module _ {G P : Type 0} (next : G → Signature → List Signature → Type 0) (
   -- where more than the cap are listed, more are reached
   pub listed_exceeds : (cap : ℕ) → cap < length sigs → ReachExceeds (next f.graph) f.first cap
   listed_exceeds cap many = record { some = sigs; many = many; reached = l.sound; once = l.once }
+
+-- what is found, sorted, is in order
+pub found_sorted : {P : Type 0} (next : Signature → List Signature → Type 0) (first : Signature) (found sorted : List (Found P)) → IsPermutation found sorted → AllPairs (λ a b. is_lt (signature_cmp b.sig a.sig) ≡ false) sorted → IsReach next first (signatures_of found)
+    → IsReach next first (signatures_of sorted) × InOrder (signatures_of sorted)
+found_sorted {P} next first found sorted same up r =
+    let moved = reach_permuted next first (signatures_of found) (signatures_of sorted) (IsPermutation-map (λ (h : Found P). h.sig) found sorted same) r in
+    (moved, strictly (signatures_of sorted) (sorted_signatures sorted up) moved.once)

@@ -1,4 +1,6 @@
 //! Crews that close graphs whose reach is known.
+ghost use Rattle.std.specs.Prelude.{◌≡◌, ◌+◌, ◌*◌, nat_lt, if◌then◌else◌};
+
 use crate::{Gate, OpenGate, close_over_with};
 use git_base::NoMemory;
 use git_machine::{CloseFault, Closed, Expansion, Sig, Successors};
@@ -28,7 +30,9 @@ fn unrefused(factor: u8, inner: u32) -> Branches {
 }
 
 impl Branches {
-    fn child(&self, n: u64, k: u8) -> u64 {
+    fn child(&self, n: u64, k: u8) -> u64
+        ensures { result ≡ (if nat_lt n self.now.inner then self.now.factor * n + k else 0) }
+    {
         if n < u64::from(self.inner) {
             u64::from(self.factor) * n + u64::from(k)
         } else {
