@@ -1,5 +1,5 @@
 -- How often numbers stand in lists.
-use Rattle.std.proofs.Common.{◌≡◌, ◌≢◌, ℕ, ◌+◌, ◌<◌, List, [], ◌∷◌, ◌++◌, length, refl, ap, arith}
+use Rattle.std.proofs.Common.{◌≡◌, ℕ, ◌+◌, ◌<◌, List, [], ◌∷◌, ◌++◌, length, refl, ap, arith}
 use native.Mathlib.Decide.{ℕ_discrete}
 use Rattle.git_visits.specs.Lists.{one, times}
 use Rattle.git_visits.proofs.Cuts.{one_same, one_other}

@@ -1,4 +1,4 @@
-use Rattle.std.proofs.Common.{◌≡◌, ◌<◌, length, subst, arith}
+use Rattle.std.proofs.Common.{◌<◌, length, subst, arith}
 use Rattle.git_table.specs.Calls.{OfferTells}
 use Rattle.git_crew.proofs.Keeping.{keeps_then, offer_keeps, new_seen, old_seen, one_more}
 use Rattle.git_crew.proofs.expand.offer_all.Goals as goal

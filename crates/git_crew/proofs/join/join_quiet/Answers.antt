@@ -1,6 +1,6 @@
 use Rattle.std.proofs.Common.{◌≡◌, ◌+◌, ◌++◌, sym, subst, rules, List}
 use Rattle.git_machine.specs.declared.successors.Found.{Found}
-use Rattle.git_crew.specs.Members.{IsMember, EndSays}
+use Rattle.git_crew.specs.Members.{EndSays}
 use Rattle.git_crew.specs.declared.member.End.TheVariants.{Quiet}
 use Rattle.git_crew.proofs.Keeping.{quiet_joined}
 use Rattle.git_crew.proofs.join.join_quiet.Goals as goal

@@ -1,4 +1,4 @@
-use Rattle.std.proofs.Common.{◌≡◌, ap, sym, ◌∙◌, subst, ◌∷◌, ◌++◌}
+use Rattle.std.proofs.Common.{ap, sym, ◌∙◌, subst, ◌∷◌, ◌++◌}
 use Rattle.git_table.specs.Views.{SeatView}
 use Rattle.git_table.specs.Calls.{live_word}
 use Rattle.git_crew.specs.Members.{EndSays}
