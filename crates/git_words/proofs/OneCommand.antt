@@ -1,0 +1,129 @@
+-- Words spell one command at most, whose numbers are within the limits.
+use Rattle.std.proofs.Common.{◌≡◌, ◌∙◌, ℕ, ◌≤◌, List, [], ◌∷◌, length, Bool, Option, Some, None, inl, inr, sym, ap, subst, arith}
+use Rattle.std.specs.Prelude.{codes, IfSome}
+use Rattle.git_words.specs.declared.commands.Sample.{Sample}
+use Rattle.git_words.specs.declared.commands.Sample.TheVariants.{Points, Plucker}
+use Rattle.git_words.specs.declared.commands.Command.{Command}
+use Rattle.git_words.specs.declared.commands.Command.TheVariants.{Fan, Faces, Make}
+use Rattle.git_words.specs.declared.commands.TheConstants.{WORKERS, TABLE, STEPS, WORKERS_UNSET, TABLE_UNSET, STEPS_UNSET}
+use Rattle.git_words.specs.declared.settings.Setting.{Setting}
+use Rattle.git_words.specs.declared.settings.Setting.TheVariants.{Workers, Table, Steps, Certs}
+use Rattle.git_words.specs.Words.{AreSettings, IsGiven, IsFan, IsFaces, IsMake, IsCommand, IsCommandAfter, NamesSample, command_word, given, workers_of, table_of, steps_of}
+use Rattle.git_words.specs.Laws.{OneCommand, CommandsAreInRange, IsInRange, IsSampleInRange}
+use Rattle.git_words.proofs.Numbers.{few_digits}
+use Rattle.git_words.proofs.Sets.{one_fan, one_faces}
+use Rattle.git_words.proofs.Samples.{one_make}
+
+first : (a b : List ℕ) (us vs : List (List ℕ)) → a ∷ us ≡ b ∷ vs → (a ≡ b) × (us ≡ vs)
+first a b us vs e = (cc, cc)
+
+long : (a b : List ℕ) → a ≡ b → length a ≡ length b
+long a b e = ap (λ (l : List ℕ). length l) e
+
+after_by : (c : Command) (us vs : List (List ℕ)) → us ≡ vs → IsCommandAfter c us → IsCommandAfter c vs
+after_by c us vs e h = subst (IsCommandAfter c) e h
+
+-- two commands with one first word and one rest
+one_after : (c d : Command) (rest : List (List ℕ)) → command_word c ≡ command_word d → IsCommandAfter c rest → IsCommandAfter d rest → c ≡ d
+one_after (Fan a b c p) (Fan e f g q) rest same h k = let all = one_fan rest a b c e f g p q h k in λ i. Fan (all.0 i) (all.1 i) (all.2 i) (all.3 i)
+one_after (Fan a b c p) (Faces n) rest same h k = let e = long _ _ same in absurd (omega (arith, e))
+one_after (Fan a b c p) (Make s q) rest same h k = let e = long _ _ same in absurd (omega (arith, e))
+one_after (Faces m) (Fan e f g q) rest same h k = let e = long _ _ same in absurd (omega (arith, e))
+one_after (Faces m) (Faces n) rest same h k = ap Faces (one_faces rest m n h k)
+one_after (Faces m) (Make s q) rest same h k = let e = long _ _ same in absurd (omega (arith, e))
+one_after (Make s p) (Fan e f g q) rest same h k = let e = long _ _ same in absurd (omega (arith, e))
+one_after (Make s p) (Faces n) rest same h k = let e = long _ _ same in absurd (omega (arith, e))
+one_after (Make s p) (Make t q) rest same h k = let all = one_make rest s t p q h k in λ i. Make (all.0 i) (all.1 i)
+
+pub one_command : OneCommand
+one_command words c d h k =
+    let same = first (command_word c) (command_word d) h.rest k.rest (sym h.begin ∙ k.begin) in
+    one_after c d k.rest same.0 (after_by c h.rest k.rest same.1 h.after) k.after
+
+-- ---- what the reader finds
+
+pub is_command : (c : Command) (words rest : List (List ℕ)) → words ≡ command_word c ∷ rest → IsCommandAfter c rest → IsCommand words c
+is_command c words rest e h = record { rest = rest; begin = e; after = h }
+
+-- a first word whose rest spells none of its commands
+none_after : (word : List ℕ) (rest : List (List ℕ)) → ((c : Command) → command_word c ≡ word → IsCommandAfter c rest → ⊥) → (words : List (List ℕ)) → words ≡ word ∷ rest → (c : Command) → IsCommand words c → ⊥
+none_after word rest none words e c h =
+    let same = first (command_word c) word h.rest rest (sym h.begin ∙ e) in none c same.0 (after_by c h.rest rest same.1 h.after)
+
+pub no_fan : (words rest : List (List ℕ)) → words ≡ codes "fan" ∷ rest → ((w t s : ℕ) → (certs : Bool) → IsFan rest w t s certs → ⊥) → (c : Command) → IsCommand words c → ⊥
+no_fan words rest e none c h = none_after (codes "fan") rest by words e c h where
+  by : (c : Command) → command_word c ≡ codes "fan" → IsCommandAfter c rest → ⊥
+  by (Fan w t s certs) same k = none w t s certs k
+  by (Faces n) same k = let e = long _ _ same in omega (arith, e)
+  by (Make s q) same k = let e = long _ _ same in omega (arith, e)
+
+pub no_faces : (words rest : List (List ℕ)) → words ≡ codes "faces" ∷ rest → ((s : ℕ) → IsFaces rest s → ⊥) → (c : Command) → IsCommand words c → ⊥
+no_faces words rest e none c h = none_after (codes "faces") rest by words e c h where
+  by : (c : Command) → command_word c ≡ codes "faces" → IsCommandAfter c rest → ⊥
+  by (Fan w t s certs) same k = let e = long _ _ same in omega (arith, e)
+  by (Faces n) same k = none n k
+  by (Make s q) same k = let e = long _ _ same in omega (arith, e)
+
+pub no_make : (words rest : List (List ℕ)) → words ≡ codes "make" ∷ rest → ((s : Sample) → (run : Bool) → IsMake rest s run → ⊥) → (c : Command) → IsCommand words c → ⊥
+no_make words rest e none c h = none_after (codes "make") rest by words e c h where
+  by : (c : Command) → command_word c ≡ codes "make" → IsCommandAfter c rest → ⊥
+  by (Fan w t s certs) same k = let e = long _ _ same in omega (arith, e)
+  by (Faces n) same k = let e = long _ _ same in omega (arith, e)
+  by (Make s q) same k = none s q k
+
+pub no_command : (words : List (List ℕ)) → ((rest : List (List ℕ)) → words ≡ codes "fan" ∷ rest → ⊥) → ((rest : List (List ℕ)) → words ≡ codes "faces" ∷ rest → ⊥) → ((rest : List (List ℕ)) → words ≡ codes "make" ∷ rest → ⊥)
+    → (c : Command) → IsCommand words c → ⊥
+no_command words fan faces make (Fan w t s certs) h = fan h.rest h.begin
+no_command words fan faces make (Faces n) h = faces h.rest h.begin
+no_command words fan faces make (Make s q) h = make h.rest h.begin
+
+pub fan_found : (words rest : List (List ℕ)) → words ≡ codes "fan" ∷ rest → (r : Option Command) → IfSome r (λ c. (w t s : ℕ) × (certs : Bool) × (c ≡ Fan w t s certs) × IsFan rest w t s certs) → IfSome r (λ c. IsCommand words c)
+fan_found words rest e None h = h
+fan_found words rest e (Some c) h = subst (IsCommand words) (sym h.4) (is_command (Fan h.0 h.1 h.2 h.3) words rest e h.5)
+
+pub faces_found : (words rest : List (List ℕ)) → words ≡ codes "faces" ∷ rest → (r : Option Command) → IfSome r (λ c. (s : ℕ) × (c ≡ Faces s) × IsFaces rest s) → IfSome r (λ c. IsCommand words c)
+faces_found words rest e None h = h
+faces_found words rest e (Some c) h = subst (IsCommand words) (sym h.1) (is_command (Faces h.0) words rest e h.2)
+
+-- ---- the limits
+
+given_in : (most default n : ℕ) (values : List ℕ) → 1 ≤ default → default ≤ most → ((m : ℕ) (more : List ℕ) → values ≡ m ∷ more → (1 ≤ m) × (m ≤ most)) → IsGiven values default n → (1 ≤ n) × (n ≤ most)
+given_in most default n values low high all (inl p) = let e = p.1 in (omega (arith, e, low), omega (arith, e, high))
+given_in most default n values low high all (inr p) = all n [] p
+
+workers_in : (ss : List Setting) (words : List (List ℕ)) → AreSettings ss words → (m : ℕ) (more : List ℕ) → given workers_of ss ≡ m ∷ more → (1 ≤ m) × (m ≤ WORKERS)
+workers_in [] words are m more e = absurd (cc e)
+workers_in (Workers n ∷ ss) words are m more e = let same : n ≡ m = cc e in let k = are.1.number in let low = k.enough in let high = k.few in (omega (arith, same, low), omega (arith, same, high))
+workers_in (Table n ∷ ss) words are m more e = workers_in ss are.0 are.2 m more e
+workers_in (Steps n ∷ ss) words are m more e = workers_in ss are.0 are.2 m more e
+workers_in (Certs ∷ ss) words are m more e = workers_in ss are.0 are.2 m more e
+
+table_in : (ss : List Setting) (words : List (List ℕ)) → AreSettings ss words → (m : ℕ) (more : List ℕ) → given table_of ss ≡ m ∷ more → (1 ≤ m) × (m ≤ TABLE)
+table_in [] words are m more e = absurd (cc e)
+table_in (Workers n ∷ ss) words are m more e = table_in ss are.0 are.2 m more e
+table_in (Table n ∷ ss) words are m more e = let same : n ≡ m = cc e in let k = are.1.number in let low = k.enough in let high = k.few in (omega (arith, same, low), omega (arith, same, high))
+table_in (Steps n ∷ ss) words are m more e = table_in ss are.0 are.2 m more e
+table_in (Certs ∷ ss) words are m more e = table_in ss are.0 are.2 m more e
+
+steps_in : (ss : List Setting) (words : List (List ℕ)) → AreSettings ss words → (m : ℕ) (more : List ℕ) → given steps_of ss ≡ m ∷ more → (1 ≤ m) × (m ≤ STEPS)
+steps_in [] words are m more e = absurd (cc e)
+steps_in (Workers n ∷ ss) words are m more e = steps_in ss are.0 are.2 m more e
+steps_in (Table n ∷ ss) words are m more e = steps_in ss are.0 are.2 m more e
+steps_in (Steps n ∷ ss) words are m more e = let same : n ≡ m = cc e in let k = are.1.number in let low = k.enough in let high = k.few in (omega (arith, same, low), omega (arith, same, high))
+steps_in (Certs ∷ ss) words are m more e = steps_in ss are.0 are.2 m more e
+
+sample_in : (words : List (List ℕ)) (s : Sample) → NamesSample words s → IsSampleInRange s
+sample_in words (Points n seed) h = (h.3.enough, h.3.few, few_digits h.1 seed h.4)
+sample_in words (Plucker n) h = (h.2.enough, h.2.few)
+
+after_in : (c : Command) (words : List (List ℕ)) → IsCommandAfter c words → IsInRange c
+after_in (Fan w t s certs) words h =
+    let a = given_in WORKERS WORKERS_UNSET w (given workers_of h.settings) (omega arith) (omega arith) (workers_in h.settings words h.are) h.gives_workers in
+    let b = given_in TABLE TABLE_UNSET t (given table_of h.settings) (omega arith) (omega arith) (table_in h.settings words h.are) h.gives_table in
+    let c = given_in STEPS STEPS_UNSET s (given steps_of h.settings) (omega arith) (omega arith) (steps_in h.settings words h.are) h.gives_steps in
+    (a.0, a.1, b.0, b.1, c.0, c.1)
+after_in (Faces s) words h = let c = given_in STEPS STEPS_UNSET s (given steps_of h.settings) (omega arith) (omega arith) (steps_in h.settings words h.are) h.gives_steps in (c.0, c.1)
+after_in (Make s run) words h = sample_in h.front s h.names
+
+pub commands_are_in_range : CommandsAreInRange
+commands_are_in_range words c h = after_in c h.rest h.after

@@ -1,0 +1,16 @@
+use Rattle.std.proofs.Common.{◌≡◌, ◌-◌, ◌∷◌, length, take, drop}
+use Rattle.std.specs.Prelude.{codes}
+use Rattle.git_words.specs.Words.{words_of}
+use Rattle.git_words.proofs.Samples.{first_is}
+use Rattle.git_words.proofs.OneCommand.{fan_found, faces_found}
+use Rattle.git_words.proofs.reading.read_words.Goals as goal
+
+pub returns-in-fan-clause-some : goal.returns-in-fan-clause-some
+returns-in-fan-clause-some c =
+    let e : words_of c.args.words.now ≡ codes "fan" ∷ words_of (take (length c.args.words.now - 1) (drop 1 c.args.words.now)) = first_is c.args.words.now _ (codes "fan") c.in-fan.len_at_least c.in-fan.is-fan in
+    fan_found (words_of c.args.words.now) (words_of (take (length c.args.words.now - 1) (drop 1 c.args.words.now))) e c.read_fan.result c.read_fan.ensures.some
+
+pub returns-in-faces-clause-some : goal.returns-in-faces-clause-some
+returns-in-faces-clause-some c =
+    let e : words_of c.args.words.now ≡ codes "faces" ∷ words_of (take (length c.args.words.now - 1) (drop 1 c.args.words.now)) = first_is c.args.words.now _ (codes "faces") c.in-faces.len_at_least c.in-faces.is-faces in
+    faces_found (words_of c.args.words.now) (words_of (take (length c.args.words.now - 1) (drop 1 c.args.words.now))) e c.read_faces.result c.read_faces.ensures.some
