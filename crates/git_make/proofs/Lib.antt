@@ -1,0 +1,4 @@
+pub mod Gradings
+pub mod Relations
+pub mod Inputs
+pub mod Drawing
