@@ -1,5 +1,7 @@
 -- What is listed at the end.
-use Rattle.std.specs.Prelude.{◌≡◌, ℕ, zero, suc, ◌+◌, ◌-◌, ◌*◌, ◌<◌, ◌==◌, List, [], ◌∷◌, map, length, slice_index, if◌then◌else◌}
+use Rattle.std.specs.Prelude.{◌≡◌, ℕ, zero, suc, ◌+◌, ◌-◌, ◌*◌, ◌<◌, ◌≤◌, ◌==◌, List, [], ◌∷◌, map, length, slice_index, if◌then◌else◌}
+use Rattle.std.specs.Global.{Vec}
+use Rattle.std.specs.Vec.{vec_capacity}
 use mathlib.Core.Option.{some}
 use lib.ListN.{get_elem?}
 use Rattle.git_machine.specs.Signatures.{Signature}
@@ -7,6 +9,10 @@ use Rattle.git_machine.specs.Reach.{Reached}
 use Rattle.git_visits.specs.declared.view.Known.{Known}
 use Rattle.git_visits.specs.Lists.{cut, times}
 use Rattle.git_visits.specs.Visits.{HasSeen}
+
+-- the vector is empty, with room for so many words
+abbrev pub IsRoom : ℕ → Vec ℕ → Type 0
+IsRoom width v = (v.items ≡ []) × (width ≤ vec_capacity v)
 
 -- the numbers with a state that isn't 0, from r on, each with its record
 abbrev pub rows : List ℕ → ℕ → ℕ → ℕ → ℕ → ℕ → List (ℕ × Signature)

@@ -1,9 +1,11 @@
 //! Seats are cut and joined, and the frontier ends.
 ghost use Rattle.std.specs.Prelude.{◌≡◌, ◌⊎◌, ◌+◌, ◌*◌, ◌<◌, ◌≤◌, ◌^◌, ℕ, List, [], ◌∷◌, length, IfOk, slice_index, None};
+ghost use Rattle.std.specs.List.{All};
+ghost use Rattle.std.specs.Vec.{vec_capacity};
 ghost use Rattle.std.specs.Slots.{IsFull, slots_items, slots_len};
 ghost use Rattle.git_machine.specs.Signatures.{Signature};
 ghost use Rattle.git_visits.specs.Seats.{Holds};
-ghost use Rattle.git_table.specs.Listings.{rows, sigs_in, Listing, Exceeds};
+ghost use Rattle.git_table.specs.Listings.{IsRoom, rows, sigs_in, Listing, Exceeds};
 ghost use Rattle.git_visits.specs.declared.view.Known.{Known};
 ghost use Rattle.git_visits.specs.declared.view.Post.TheVariants.{Held};
 ghost use Rattle.git_visits.specs.Cuttings.{kept_half, given_half, joined};
@@ -17,60 +19,95 @@ use git_machine::{Sig, Successors};
 use git_visits::Halves;
 use std::alloc::Global;
 
-// The words from a place on.
-fn words_at(
+// For each of `count` signatures of this width an empty vector with room for its words.
+fn rooms(alloc: Global, count: usize, width: usize) -> Result<Vec<Vec<u64>>, NoMemory>
+    ensures { IfOk result (λ v. (length v.items ≡ count) × All (IsRoom width) v.items) }
+{
+    let mut rooms = Vec::with_capacity(alloc, count)?;
+    for _r in 0..count {
+        let room = Vec::with_capacity(alloc, width)?;
+        rooms.push(room)?;
+    }
+    Ok(rooms)
+}
+
+// The memory of a listing: its vector, with room for `count` signatures, and a room for each.
+fn memory(
     alloc: Global,
+    count: usize,
+    width: usize,
+) -> Result<(Vec<Sig>, Vec<Vec<u64>>), NoMemory>
+    ensures { IfOk result (λ m. (m.0.items ≡ []) × (count ≤ vec_capacity m.0) × ((length m.1.items ≡ count) × All (IsRoom width) m.1.items)) }
+{
+    let sigs = Vec::with_capacity(alloc, count)?;
+    let rooms = rooms(alloc, count, width)?;
+    Ok((sigs, rooms))
+}
+
+// The words from a place on, in an empty vector with room for them.
+fn words_at(
+    room: Vec<u64>,
     closed: &Closed<(), Global>,
     start: usize,
     width: usize,
-) -> Result<Vec<u64>, NoMemory>
+) -> Vec<u64>
     requires full { IsFull closed.now.words }
     requires inside { (start + width ≤ slots_len closed.now.words) × (start + width < 2 ^ 40) }
-    ensures { IfOk result (λ v. (length v.items ≡ width) × ((j : ℕ) → j < width → slice_index v.items j ≡ slice_index (slots_items closed.now.words) (start + j))) }
+    requires room { IsRoom width room }
+    ensures { (length result.items ≡ width) × ((j : ℕ) → j < width → slice_index result.items j ≡ slice_index (slots_items closed.now.words) (start + j)) }
 {
-    let mut words = Vec::new(alloc);
+    let mut words = room;
     for j in 0..width {
-        words.push(closed.word(start + j))?;
+        let Ok(()) = words.push(closed.word(start + j)) else {
+            unreachable!()
+        };
     }
-    Ok(words)
+    words
 }
 
 // The signature at a place.
 fn sig_at(
-    alloc: Global,
+    room: Vec<u64>,
     closed: &Closed<(), Global>,
     start: usize,
     width: usize,
-) -> Result<Sig, NoMemory>
+) -> Sig
     requires full { IsFull closed.now.words }
     requires inside { (start + width ≤ slots_len closed.now.words) × (start + width < 2 ^ 40) }
-    ensures { IfOk result (λ s. s ≡ cut (slots_items closed.now.words) start width) }
+    requires room { IsRoom width room }
+    ensures { result ≡ cut (slots_items closed.now.words) start width }
 {
-    let words = words_at(alloc, closed, start, width)?;
-    Sig::of(alloc, words.as_slice())
+    Sig::of_words(words_at(room, closed, start, width))
 }
 
+// The signatures of the records that have a state, in the memory that was taken for them.
 fn listed(
-    alloc: Global,
+    memory: (Vec<Sig>, Vec<Vec<u64>>),
     closed: &Closed<(), Global>,
     states: usize,
     start: usize,
     width: usize,
     records: usize,
-) -> Result<Vec<Sig>, NoMemory>
+) -> Vec<Sig>
     requires full { IsFull closed.now.words }
     requires inside { (states ≡ start + records * width) × (states + records ≤ slots_len closed.now.words) × (states + records < 2 ^ 40) }
-    ensures { IfOk result (λ l. l.items ≡ sigs_in (rows (slots_items closed.now.words) states start width 0 records)) }
+    requires memory { (memory.0.items ≡ []) × (records ≤ vec_capacity memory.0) × ((length memory.1.items ≡ records) × All (IsRoom width) memory.1.items) }
+    ensures { result.items ≡ sigs_in (rows (slots_items closed.now.words) states start width 0 records) }
 {
-    let mut sigs = Vec::new(alloc);
+    let (mut sigs, mut rooms) = memory;
     for r in 0..records {
         if closed.word(states + r) == 0 {
             continue;
         }
-        let sig = sig_at(alloc, closed, start + r * width, width)?;
-        sigs.push(sig)?;
+        let Some(room) = rooms.pop() else {
+            unreachable!()
+        };
+        let sig = sig_at(room, closed, start + r * width, width);
+        let Ok(()) = sigs.push(sig) else {
+            unreachable!()
+        };
     }
-    Ok(sigs)
+    sigs
 }
 
 impl<G: Successors> Visited<G> {
@@ -101,7 +138,7 @@ impl<G: Successors> Visited<G> {
         bound_word(&self.table.shared, seat);
     }
 
-    /// All published signatures.
+    /// All published signatures. It takes its memory before it closes the table.
     pub fn close(self, alloc: Global, seat: TableSeat<G>) -> Result<Vec<Sig>, NoMemory>
         requires own { seat.table_id ≡ self.table.shared.table_id }
         requires view { Holds seat (λ v. (v.key ≡ self.table.shared.key) × (((v.places ≡ v.key.workers) × (v.work.hand ≡ None)) ⊎ (v.work.quiet ≡ 1))) }
@@ -114,10 +151,11 @@ impl<G: Successors> Visited<G> {
             hashes,
             states,
         } = self;
+        let memory = memory(alloc, records, width)?;
         let closed = table.close_with(seat);
-        let found = listed(alloc, &closed, states, 1 + hashes, width, records);
+        let sigs = listed(memory, &closed, states, 1 + hashes, width, records);
         closed.free();
-        found
+        Ok(sigs)
     }
 
     /// The end, after this seat was answered Full.
@@ -134,19 +172,6 @@ impl<G: Successors> Visited<G> {
             states: _,
         } = self;
         let closed = table.close_with(seat);
-        closed.free();
-    }
-
-    /// The end, where nothing is asked of it.
-    pub fn discard(self) {
-        let Visited {
-            table,
-            records: _,
-            width: _,
-            hashes: _,
-            states: _,
-        } = self;
-        let closed = table.close();
         closed.free();
     }
 }

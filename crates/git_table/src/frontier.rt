@@ -14,6 +14,7 @@ use std::alloc::Global;
 use std::marker::Model;
 
 /// The signatures that callers have found, each with an id, shared by all of them. No call waits.
+#[derive(Drop)]
 pub struct Frontier<G: Successors> {
     pub(crate) visited: Visited<G>,
 }
@@ -191,7 +192,8 @@ impl<G: Successors> Frontier<G> {
     ///
     /// # Errors
     ///
-    /// `NoMemory` gives up the frontier.
+    /// `NoMemory` gives up the frontier. All memory is taken first, before the table is closed: room for as
+    /// many signatures as there are ids.
     pub fn close(self, alloc: Global, seat: Seat<G>) -> Result<Listed, NoMemory>
         requires of { IsOf self seat }
         requires whole { ((seat.places ≡ self.workers) × (seat.hand ≡ None)) ⊎ (seat.quiet ≡ 1) }
@@ -222,11 +224,5 @@ impl<G: Successors> Frontier<G> {
             hand: _,
         } = seat;
         visited.end_full(raw);
-    }
-
-    /// The end, where nothing is asked of it.
-    pub fn discard(self) {
-        let Frontier { visited } = self;
-        visited.discard();
     }
 }

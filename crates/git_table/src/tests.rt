@@ -269,15 +269,11 @@ fn end(alloc: Global, frontier: Frontier<Star>, caller: Caller) -> Result<Option
 {
     let Caller { mut seat, busy } = caller;
     if busy {
-        frontier.discard();
         return Ok(None);
     }
     match frontier.take(&mut seat) {
         Taken::Quiet => Ok(Some(frontier.close(alloc, seat)?)),
-        Taken::Work(_) | Taken::NotYet | Taken::Halted => {
-            frontier.discard();
-            Ok(None)
-        }
+        Taken::Work(_) | Taken::NotYet | Taken::Halted => Ok(None),
     }
 }
 
@@ -366,7 +362,6 @@ fn a_full_table_still_knows_its_signatures(rt: HostRuntime) -> Result<(), Fail> 
         busy: false,
     };
     let right = run(rt.alloc(), &frontier, &star, &mut first, &mut second, &rows);
-    frontier.discard();
     assert_eq!(rt; right?, 11);
     Ok(())
 }
@@ -394,7 +389,6 @@ fn callers_halt(rt: HostRuntime) -> Result<(), Fail> {
         busy: false,
     };
     let right = run(rt.alloc(), &frontier, &star, &mut first, &mut second, &rows);
-    frontier.discard();
     assert_eq!(rt; right?, 6);
     Ok(())
 }

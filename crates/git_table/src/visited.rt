@@ -7,6 +7,7 @@ use git_machine::Successors;
 use git_visits::{Key, Post, Visits};
 use std::alloc::Global;
 
+#[derive(Drop)]
 pub struct Visited<G: Successors> {
     pub table: Table<(), Post<G>, Key<G>, Visits<G>, Global>,
     pub records: usize,

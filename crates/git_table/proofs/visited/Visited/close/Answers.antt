@@ -1,25 +1,20 @@
-use Rattle.std.proofs.Common.{◌≡◌, ℕ, ◌+◌, List, sym, ap, ◌∙◌, subst, arith, inl, inr, Result, Ok, Err, IfOk}
+use Rattle.std.proofs.Common.{◌≡◌, ℕ, ◌+◌, List, sym, ap, ◌∙◌, subst, arith, inl, inr}
 use Rattle.std.specs.Slots.{slots_items}
 use mathlib.Core.Option.{some}
 use lib.ListN.{get_elem?}
-use Rattle.git_machine.specs.Signatures.{Signature}
 use Rattle.git_visits.specs.declared.view.Key.{Key}
 use Rattle.git_visits.specs.declared.view.Known.{Known}
 use Rattle.git_visits.specs.declared.view.Post.{Post}
 use Rattle.git_visits.specs.declared.view.Post.TheVariants.{Held}
 use Rattle.git_visits.specs.Visits.{records, states_at, freshes, Ruled}
 use Rattle.git_visits.specs.Lists.{total}
-use Rattle.git_table.specs.Listings.{rows, sigs_in, Listing}
+use Rattle.git_table.specs.Listings.{rows, sigs_in}
 use Rattle.git_table.proofs.Told.{held_same}
 use Rattle.git_table.proofs.Listings.{listing, bare_alone, bare_quiet}
 use Rattle.git_table.proofs.visited.Visited.close.Goals as goal
 
 pub free-requires : goal.free-requires
 free-requires g c = λ k l. let n = c.close_with-closed.ensures.counts in let z = c.args.self.slotless in absurd (omega arith)
-
-ok_list : {A E : Type 0} (items : A → List Signature) (xs : List Signature) (P : List (ℕ × Signature) → Type 0) (rs : List (ℕ × Signature)) (r : Result A E) → IfOk r (λ l. items l ≡ xs) → xs ≡ sigs_in rs → P rs → IfOk r (λ l. (rs : List (ℕ × Signature)) × (items l ≡ sigs_in rs) × P rs)
-ok_list items xs P rs (Ok l) e p q = (rs, e ∙ p, q)
-ok_list items xs P rs (Err x) e p q = tt
 
 pub returns : goal.returns
 returns g c = λ v e.
@@ -39,7 +34,7 @@ returns g c = λ v e.
     let at_key : rows (slots_items c.close_with-closed.result.words) self.states (1 + self.hashes) self.width 0 self.records ≡ rows f.0.words (states_at v.key) (1 + v.key.hashes) v.key.width 0 (records v.key)
     = ap (λ (ws : List ℕ). rows ws self.states (1 + self.hashes) self.width 0 self.records) w ∙ (mixed f.0.words self.states (states_at v.key) self.hashes v.key.hashes self.width v.key.width self.records (records v.key)
     (t ∙ ap (λ (k : Key g.row.G.Denot). states_at k) (sym is)) (a ∙ ap (λ (k : Key g.row.G.Denot). k.hashes) (sym is)) (b ∙ ap (λ (k : Key g.row.G.Denot). k.width) (sym is)) (d ∙ ap (λ (k : Key g.row.G.Denot). records k) (sym is))) in
-    ok_list (λ l. l.items) (sigs_in (rows (slots_items c.close_with-closed.result.words) self.states (1 + self.hashes) self.width 0 self.records)) (Listing next v) (rows f.0.words (states_at v.key) (1 + v.key.hashes) v.key.width 0 (records v.key)) c.listed-found.result c.listed-found.ensures (ap sigs_in at_key) l
+    (rows f.0.words (states_at v.key) (1 + v.key.hashes) v.key.width 0 (records v.key), c.listed-sigs.ensures ∙ ap sigs_in at_key, l)
   where
     mixed : (ws : List ℕ) (s s' h h' w w' n n' : ℕ) → s ≡ s' → h ≡ h' → w ≡ w' → n ≡ n' → rows ws s (1 + h) w 0 n ≡ rows ws s' (1 + h') w' 0 n'
     mixed ws s s' h h' w w' n n' a b c d = λ i. rows ws (a i) (1 + b i) (c i) 0 (d i)
