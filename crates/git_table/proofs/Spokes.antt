@@ -18,9 +18,6 @@ pub spokes_long : (n : ℕ) → length (spokes n) ≡ n
 spokes_long zero = refl
 spokes_long (suc n) = let t = spokes_long n in omega (arith, length-append (spokes n) (((n + 1) ∷ []) ∷ []))
 
-pub spokes_next : (n : ℕ) → spokes (n + 1) ≡ spokes n ++ ((n + 1) ∷ []) ∷ []
-spokes_next n = let e : n + 1 ≡ suc n = omega arith in ap spokes e
-
 at_end : (xs : List Signature) (x : Signature) (n : ℕ) (d : Signature) → length xs ≡ n → slice_index_or (xs ++ x ∷ []) n d ≡ x
 at_end [] x zero d e = refl
 at_end [] x (suc n) d e = absurd (omega arith)
@@ -60,9 +57,9 @@ module _ {G : Type 0} (f : FrontierView G) (s t : SeatView G) (x : Signature) wh
   told_seen offer.Full o n = absurd (n refl)
 
   pub told_caller : (r : Offer) → OfferTells f s t x r → (b : Bool) → IsCaller f s b → IsCaller f t b
-  told_caller (offer.New id) o b c = subst (λ (u : SeatView G). IsCaller f u b) (sym o.1.2) record { of = c.of; hand = λ e. let h = c.hand e in (h.0, h.1, h.2, (suc h.3.0, h.3.1)); free = c.free }
-  told_caller (offer.Seen id) o b c = subst (λ (u : SeatView G). IsCaller f u b) (sym o.1) record { of = c.of; hand = λ e. let h = c.hand e in (h.0, h.1, h.2, (suc h.3.0, h.3.1)); free = c.free }
-  told_caller offer.Full o b c = subst (λ (u : SeatView G). IsCaller f u b) (sym o.2) record { of = c.of; hand = c.hand; free = c.free }
+  told_caller (offer.New id) o b c = subst (λ (u : SeatView G). IsCaller f u b) (sym o.1.2) record { of = c.of; place = c.place; hand = λ e. let h = c.hand e in (h.0, h.1, h.2, (suc h.3.0, h.3.1)); free = c.free }
+  told_caller (offer.Seen id) o b c = subst (λ (u : SeatView G). IsCaller f u b) (sym o.1) record { of = c.of; place = c.place; hand = λ e. let h = c.hand e in (h.0, h.1, h.2, (suc h.3.0, h.3.1)); free = c.free }
+  told_caller offer.Full o b c = subst (λ (u : SeatView G). IsCaller f u b) (sym o.2) record { of = c.of; place = c.place; hand = c.hand; free = c.free }
 
 pub new_not_full : (n : ℕ) → ◌≡◌ {A = Offer} (offer.New n) offer.Full → ⊥
 new_not_full n e = cc
@@ -82,10 +79,10 @@ module _ {G : Type 0} (f : FrontierView G) (s t : SeatView G) (x : Signature) wh
 not_free : ◌≡◌ {A = Bool} true false → ⊥
 not_free e = cc
 
-module _ {G : Type 0} (f : FrontierView G) (s t u : SeatView G) (id : ℕ) (x : Signature) (of : IsOf f s) (read : u ≡ record t { seen = (id, x) ∷ t.seen }) where
+module _ {G : Type 0} (f : FrontierView G) (s t u : SeatView G) (id : ℕ) (x : Signature) (of : IsOf f s) (place : s.places ≡ 1) (read : u ≡ record t { seen = (id, x) ∷ t.seen }) where
   -- what was taken, and then read
   pub take_read : TakeTells f s t (taken.Work id) → IsCaller f u true
-  take_read o = subst (λ (w : SeatView G). IsCaller f w true) (sym (read ∙ ap (λ (w : SeatView G). record w { seen = (id, x) ∷ w.seen }) o.1.3)) record { of = of; hand = λ _. (id, x, refl, (0, refl)); free = λ e. absurd (not_free e) }
+  take_read o = subst (λ (w : SeatView G). IsCaller f w true) (sym (read ∙ ap (λ (w : SeatView G). record w { seen = (id, x) ∷ w.seen }) o.1.3)) record { of = of; place = place; hand = λ _. (id, x, refl, (0, refl)); free = λ e. absurd (not_free e) }
 
   pub hint_read : (r : ℕ) → HintTells f s t r (hinted.Work id) → IsCaller f u true
-  hint_read r o = subst (λ (w : SeatView G). IsCaller f w true) (sym (read ∙ (ap (λ (m : ℕ). record t { seen = (m, x) ∷ t.seen }) o.0 ∙ ap (λ (w : SeatView G). record w { seen = (r, x) ∷ w.seen }) o.1))) record { of = of; hand = λ _. (r, x, refl, (0, refl)); free = λ e. absurd (not_free e) }
+  hint_read r o = subst (λ (w : SeatView G). IsCaller f w true) (sym (read ∙ (ap (λ (m : ℕ). record t { seen = (m, x) ∷ t.seen }) o.0 ∙ ap (λ (w : SeatView G). record w { seen = (r, x) ∷ w.seen }) o.1))) record { of = of; place = place; hand = λ _. (r, x, refl, (0, refl)); free = λ e. absurd (not_free e) }

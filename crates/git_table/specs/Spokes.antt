@@ -23,8 +23,9 @@ module _ {G : Type 0} where
   abbrev pub HasHand : SeatView G → Type 0
   HasHand s = (id : ℕ) × (x : Signature) × (s.hand ≡ Some id) × Sees s id x
 
-  -- the seat is of the frontier, and has a hand just where the flag says so
+  -- the seat is of the frontier, has one place, and has a hand just where the flag says so
   pub record IsCaller (f : FrontierView G) (s : SeatView G) (busy : Bool) : Type 0 where
     pub of : IsOf f s
+    pub place : s.places ≡ 1
     pub hand : busy ≡ true → HasHand s
     pub free : busy ≡ false → s.hand ≡ None

@@ -32,11 +32,7 @@ fn rooms(alloc: Global, count: usize, width: usize) -> Result<Vec<Vec<u64>>, NoM
 }
 
 // The memory of a listing: its vector, with room for `count` signatures, and a room for each.
-fn memory(
-    alloc: Global,
-    count: usize,
-    width: usize,
-) -> Result<(Vec<Sig>, Vec<Vec<u64>>), NoMemory>
+fn memory(alloc: Global, count: usize, width: usize) -> Result<(Vec<Sig>, Vec<Vec<u64>>), NoMemory>
     ensures { IfOk result (λ m. (m.0.items ≡ []) × (count ≤ vec_capacity m.0) × ((length m.1.items ≡ count) × All (IsRoom width) m.1.items)) }
 {
     let sigs = Vec::with_capacity(alloc, count)?;
@@ -45,12 +41,7 @@ fn memory(
 }
 
 // The words from a place on, in an empty vector with room for them.
-fn words_at(
-    room: Vec<u64>,
-    closed: &Closed<(), Global>,
-    start: usize,
-    width: usize,
-) -> Vec<u64>
+fn words_at(room: Vec<u64>, closed: &Closed<(), Global>, start: usize, width: usize) -> Vec<u64>
     requires full { IsFull closed.now.words }
     requires inside { (start + width ≤ slots_len closed.now.words) × (start + width < 2 ^ 40) }
     requires room { IsRoom width room }
@@ -66,12 +57,7 @@ fn words_at(
 }
 
 // The signature at a place.
-fn sig_at(
-    room: Vec<u64>,
-    closed: &Closed<(), Global>,
-    start: usize,
-    width: usize,
-) -> Sig
+fn sig_at(room: Vec<u64>, closed: &Closed<(), Global>, start: usize, width: usize) -> Sig
     requires full { IsFull closed.now.words }
     requires inside { (start + width ≤ slots_len closed.now.words) × (start + width < 2 ^ 40) }
     requires room { IsRoom width room }

@@ -1,5 +1,6 @@
-//! Callers of a frontier, one by one and at once.
-ghost use Rattle.std.specs.Prelude.{◌≡◌, ◌<◌, ◌+◌, ℕ, List, true, false, IfOk, length, IsTrue};
+//! Callers of a frontier, one by one and at once. No function but those that make threads has a bound:
+//! they make each call of the frontier, so none of its calls can wait.
+ghost use Rattle.std.specs.Prelude.{◌≡◌, ◌<◌, ◌≤◌, ◌+◌, ℕ, List, true, false, IfOk, length, IsTrue};
 ghost use Rattle.std.specs.List.{All, Contains};
 ghost use Rattle.git_machine.specs.Signatures.{Signature};
 ghost use Rattle.git_table.specs.Calls.{IsOf, Sees, room};
@@ -205,6 +206,7 @@ fn work(alloc: Global, frontier: &Frontier<Star>, star: &Star, caller: &mut Call
 #[derive(Clone, Copy)]
 enum Step {
     Take,
+    Hint(u32),
     Offer(u64),
     Finish,
     Halt,
@@ -214,15 +216,23 @@ fn say(
     alloc: Global,
     frontier: &Frontier<Star>,
     star: &Star,
+    ids: u32,
     caller: &mut Caller,
     step: Step,
 ) -> Result<Said, NoMemory>
     requires caller { IsCaller frontier.now caller.old.seat caller.old.busy }
     requires star { frontier.now.graph ≡ star.now }
+    requires ids { ids ≡ room frontier.now }
     ensures { IsCaller frontier.now caller.new.seat caller.new.busy }
 {
     match step {
         Step::Take => Ok(take(frontier, caller)),
+        Step::Hint(id) => {
+            if id >= ids {
+                return Ok(Said::Refused);
+            }
+            Ok(hint(frontier, caller, id))
+        }
         Step::Offer(number) => offer(alloc, frontier, star, caller, number),
         Step::Finish => finish(alloc, frontier, star, caller),
         Step::Halt => {
@@ -238,6 +248,7 @@ fn run(
     alloc: Global,
     frontier: &Frontier<Star>,
     star: &Star,
+    ids: u32,
     first: &mut Caller,
     second: &mut Caller,
     rows: &[(bool, Step, Said)],
@@ -245,15 +256,16 @@ fn run(
     requires first { IsCaller frontier.now first.old.seat first.old.busy }
     requires second { IsCaller frontier.now second.old.seat second.old.busy }
     requires star { frontier.now.graph ≡ star.now }
+    requires ids { ids ≡ room frontier.now }
     ensures first { IsCaller frontier.now first.new.seat first.new.busy }
     ensures second { IsCaller frontier.now second.new.seat second.new.busy }
 {
     let mut right = 0u32;
     for &(by_first, step, said) in rows {
         let got = if by_first {
-            say(alloc, frontier, star, first, step)?
+            say(alloc, frontier, star, ids, first, step)?
         } else {
-            say(alloc, frontier, star, second, step)?
+            say(alloc, frontier, star, ids, second, step)?
         };
         if got != said {
             return Ok(right);
@@ -261,6 +273,94 @@ fn run(
         right = right.wrapping_add(1);
     }
     Ok(right)
+}
+
+/// The listing of two callers that are joined, where neither has a hand.
+fn joined(
+    alloc: Global,
+    frontier: Frontier<Star>,
+    first: Caller,
+    second: Caller,
+) -> Result<Option<Listed>, NoMemory>
+    requires workers { frontier.workers ≡ 2 }
+    requires first { IsCaller frontier first.seat first.busy }
+    requires second { IsCaller frontier second.seat second.busy }
+{
+    let Caller { seat: one, busy } = first;
+    let Caller {
+        seat: two,
+        busy: other,
+    } = second;
+    if busy || other {
+        return Ok(None);
+    }
+    let seat = frontier.join(one, two);
+    Ok(Some(frontier.close(alloc, seat)?))
+}
+
+/// Two callers do the rows. Gives how many rows are answered as they say, up to the first that isn't, and
+/// the listing.
+fn play(
+    alloc: Global,
+    cap: u32,
+    last: u64,
+    rows: &[(bool, Step, Said)],
+) -> Result<(u32, Option<Listed>), NoMemory>
+    requires { (0 < cap) × (cap ≤ 100) }
+{
+    let star = Star { last };
+    let root = Sig::of(alloc, &[0])?;
+    let (frontier, seat) = Frontier::new(alloc, &star, cap, 2, &root)?;
+    let (one, two) = frontier.split(seat);
+    let mut first = Caller {
+        seat: one,
+        busy: false,
+    };
+    let mut second = Caller {
+        seat: two,
+        busy: false,
+    };
+    let right = run(
+        alloc,
+        &frontier,
+        &star,
+        cap + 2,
+        &mut first,
+        &mut second,
+        rows,
+    )?;
+    Ok((right, joined(alloc, frontier, first, second)?))
+}
+
+/// Whether these numbers are listed, in this order.
+fn lists(listed: &Option<Listed>, numbers: &[u64]) -> bool {
+    let Some(listed) = listed else {
+        return numbers.is_empty();
+    };
+    if listed.sigs.len() != numbers.len() {
+        return false;
+    }
+    for (i, sig) in listed.sigs.as_slice().iter().enumerate() {
+        if sig.width() != 1 || i >= numbers.len() || sig.word(0) != numbers[i] {
+            return false;
+        }
+    }
+    true
+}
+
+/// Whether the numbers from 0 to 100 are listed, each once.
+fn has_each_once(listed: &Option<Listed>) -> bool {
+    let Some(listed) = listed else {
+        return false;
+    };
+    let mut found = [false; 101];
+    for sig in listed.sigs.as_slice().iter() {
+        if sig.width() != 1 || sig.word(0) >= 101 || found[sig.word(0) as usize] {
+            return false;
+        }
+        found[sig.word(0) as usize] = true;
+    }
+    listed.sigs.len() == 101
 }
 
 /// The listing, if a take says that nothing is left.
@@ -298,7 +398,7 @@ fn work_all<R: Threads + Sync>(
 
 #[test]
 fn two_callers_share_what_they_find(rt: HostRuntime) -> Result<(), Fail> {
-    // Which caller, what it does, what is answered: 0 leads to 1 and 2, and so do both.
+    // Which caller, what it does, what is answered: each leads to 1 and 2.
     let rows = [
         (true, Step::Take, Said::Work(0)),
         (false, Step::Take, Said::NotYet),
@@ -315,27 +415,64 @@ fn two_callers_share_what_they_find(rt: HostRuntime) -> Result<(), Fail> {
         (true, Step::Finish, Said::Done),
         (false, Step::Take, Said::Quiet),
     ];
-    let star = Star { last: 2 };
-    let root = Sig::of(rt.alloc(), &[0])?;
-    let (frontier, seat) = Frontier::new(rt.alloc(), &star, 4, 2, &root)?;
-    let (one, two) = frontier.split(seat);
-    let mut first = Caller {
-        seat: one,
-        busy: false,
-    };
-    let mut second = Caller {
-        seat: two,
-        busy: false,
-    };
-    let right = run(rt.alloc(), &frontier, &star, &mut first, &mut second, &rows);
-    let listed = end(rt.alloc(), frontier, first)?;
-    assert_eq!(rt; right?, 14);
-    assert_eq!(rt; listed.map(|l| l.sigs.len()), Some(3));
+    let (right, listed) = play(rt.alloc(), 4, 2, &rows)?;
+    assert_eq!(rt; right, 14);
+    assert_eq!(rt; lists(&listed, &[0, 1, 2]), true);
+    Ok(())
+}
+
+#[test]
+fn one_caller_waits_for_the_other(rt: HostRuntime) -> Result<(), Fail> {
+    // Both lead to 1 alone.
+    let rows = [
+        (true, Step::Take, Said::Work(0)),
+        (false, Step::Take, Said::NotYet),
+        (true, Step::Offer(1), Said::New(1)),
+        (true, Step::Offer(1), Said::Seen(1)),
+        (true, Step::Finish, Said::Done),
+        (false, Step::Take, Said::Work(1)),
+        (true, Step::Take, Said::NotYet),
+        (false, Step::Finish, Said::Done),
+        (true, Step::Take, Said::Quiet),
+        (false, Step::Take, Said::Quiet),
+    ];
+    let (right, listed) = play(rt.alloc(), 4, 1, &rows)?;
+    assert_eq!(rt; right, 10);
+    assert_eq!(rt; lists(&listed, &[0, 1]), true);
+    Ok(())
+}
+
+#[test]
+fn hints_are_taken_once(rt: HostRuntime) -> Result<(), Fail> {
+    let rows = [
+        (true, Step::Take, Said::Work(0)),
+        (false, Step::Hint(1), Said::Gone),
+        (true, Step::Offer(1), Said::New(1)),
+        (false, Step::Hint(1), Said::Work(1)),
+        (true, Step::Offer(2), Said::New(2)),
+        (true, Step::Offer(3), Said::New(3)),
+        (true, Step::Finish, Said::Done),
+        (true, Step::Hint(1), Said::Gone),
+        (true, Step::Hint(2), Said::Work(2)),
+        (true, Step::Hint(3), Said::Refused),
+        (true, Step::Finish, Said::Done),
+        (true, Step::Hint(2), Said::Gone),
+        (true, Step::Hint(5), Said::Gone),
+        (true, Step::Hint(6), Said::Refused),
+        (false, Step::Finish, Said::Done),
+        (false, Step::Take, Said::Work(3)),
+        (false, Step::Finish, Said::Done),
+        (false, Step::Take, Said::Quiet),
+    ];
+    let (right, listed) = play(rt.alloc(), 4, 3, &rows)?;
+    assert_eq!(rt; right, 18);
+    assert_eq!(rt; lists(&listed, &[0, 1, 2, 3]), true);
     Ok(())
 }
 
 #[test]
 fn a_full_table_still_knows_its_signatures(rt: HostRuntime) -> Result<(), Fail> {
+    // A table for one signature and two callers has three records. The hands stay, so nothing is listed.
     let rows = [
         (true, Step::Take, Said::Work(0)),
         (true, Step::Offer(1), Said::New(1)),
@@ -349,20 +486,9 @@ fn a_full_table_still_knows_its_signatures(rt: HostRuntime) -> Result<(), Fail> 
         (false, Step::Offer(2), Said::Seen(2)),
         (true, Step::Take, Said::Refused),
     ];
-    let star = Star { last: 3 };
-    let root = Sig::of(rt.alloc(), &[0])?;
-    let (frontier, seat) = Frontier::new(rt.alloc(), &star, 1, 2, &root)?;
-    let (one, two) = frontier.split(seat);
-    let mut first = Caller {
-        seat: one,
-        busy: false,
-    };
-    let mut second = Caller {
-        seat: two,
-        busy: false,
-    };
-    let right = run(rt.alloc(), &frontier, &star, &mut first, &mut second, &rows);
-    assert_eq!(rt; right?, 11);
+    let (right, listed) = play(rt.alloc(), 1, 3, &rows)?;
+    assert_eq!(rt; right, 11);
+    assert_eq!(rt; lists(&listed, &[]), true);
     Ok(())
 }
 
@@ -370,26 +496,43 @@ fn a_full_table_still_knows_its_signatures(rt: HostRuntime) -> Result<(), Fail> 
 fn callers_halt(rt: HostRuntime) -> Result<(), Fail> {
     let rows = [
         (true, Step::Take, Said::Work(0)),
+        (false, Step::Halt, Said::Done),
         (true, Step::Offer(1), Said::New(1)),
-        (true, Step::Halt, Said::Done),
-        (false, Step::Take, Said::Halted),
+        (true, Step::Offer(2), Said::New(2)),
         (true, Step::Finish, Said::Done),
         (true, Step::Take, Said::Halted),
+        (false, Step::Take, Said::Halted),
     ];
-    let star = Star { last: 1 };
+    let (right, listed) = play(rt.alloc(), 4, 2, &rows)?;
+    assert_eq!(rt; right, 7);
+    assert_eq!(rt; lists(&listed, &[0, 1, 2]), true);
+    Ok(())
+}
+
+#[test]
+fn two_threads_offer_the_same(rt: HostRuntime) -> Result<(), Fail> {
+    let star = Star { last: 100 };
     let root = Sig::of(rt.alloc(), &[0])?;
-    let (frontier, seat) = Frontier::new(rt.alloc(), &star, 4, 2, &root)?;
-    let (one, two) = frontier.split(seat);
-    let mut first = Caller {
-        seat: one,
+    let (frontier, own) = Frontier::new(rt.alloc(), &star, 200, 3, &root)?;
+    let (own, one) = frontier.split(own);
+    let (own, two) = frontier.split(own);
+    let own = Caller {
+        seat: own,
         busy: false,
     };
-    let mut second = Caller {
-        seat: two,
-        busy: false,
-    };
-    let right = run(rt.alloc(), &frontier, &star, &mut first, &mut second, &rows);
-    assert_eq!(rt; right?, 6);
+    let mut callers = [
+        Caller {
+            seat: one,
+            busy: false,
+        },
+        Caller {
+            seat: two,
+            busy: false,
+        },
+    ];
+    work_all(&rt, rt.alloc(), &frontier, &star, &mut callers);
+    let listed = end(rt.alloc(), frontier, own)?;
+    assert_eq!(rt; has_each_once(&listed), true);
     Ok(())
 }
 
@@ -426,6 +569,6 @@ fn threads_close_one_graph(rt: HostRuntime) -> Result<(), Fail> {
     ];
     work_all(&rt, rt.alloc(), &frontier, &star, &mut callers);
     let listed = end(rt.alloc(), frontier, own)?;
-    assert_eq!(rt; listed.map(|l| l.sigs.len()), Some(101));
+    assert_eq!(rt; has_each_once(&listed), true);
     Ok(())
 }
