@@ -163,10 +163,7 @@ where
             frontier.close_full(seat);
             Err(CloseFault::Full)
         }
-        End::Working | End::Stopped => {
-            frontier.discard();
-            Err(CloseFault::NoMemory)
-        }
+        End::Working | End::Stopped => Err(CloseFault::NoMemory),
     }
 }
 
@@ -190,10 +187,7 @@ where
     ensures full { result ≡ Err CloseFault.Full → ReachExceeds (G.next graph.now) first.now cap }
 {
     let (frontier, seat) = Frontier::new(alloc, graph, cap, workers, first)?;
-    let Ok(members) = members(alloc, &frontier, seat, workers) else {
-        frontier.discard();
-        return Err(CloseFault::NoMemory);
-    };
+    let members = members(alloc, &frontier, seat, workers)?;
     let members = worked(rt, alloc, &frontier, graph, gate, members, workers);
     let all = join_all(&frontier, members);
     ended(alloc, frontier, all, cap)
