@@ -1,6 +1,6 @@
 -- The matrices of samples are gradings.
-use Rattle.std.proofs.Common.{◌≡◌, ◌⊎◌, ◌∙◌, ℕ, zero, suc, ◌+◌, ◌-◌, ◌*◌, ◌/◌, ◌%◌, ◌≤◌, ◌<◌, List, [], ◌∷◌, ◌++◌, length, map, take, true, inl, inr, refl, sym, ap, subst, arith}
-use Rattle.std.specs.Prelude.{nat_le, All, pos, negsuc, ℤ, ◌<ℤ◌, Contains}
+use Rattle.std.proofs.Common.{◌≡◌, ◌∙◌, ℕ, zero, suc, ◌+◌, ◌-◌, ◌*◌, ◌≤◌, List, [], ◌∷◌, ◌++◌, length, map, take, true, inl, inr, refl, sym, subst, arith}
+use Rattle.std.specs.Prelude.{nat_le, All, pos, ℤ, ◌<ℤ◌, Contains}
 use Rattle.std.specs.List.{list_all, range_with_len}
 use Rattle.std.proofs.lemmas.List.FromFn.{length-map-range_with_len}
 use Rattle.std.proofs.lemmas.List.{length-append}
@@ -9,7 +9,7 @@ use Rattle.std.proofs.lemmas.Bool.{and_parts}
 use Rattle.std.proofs.lemmas.Bool.Decides.{nat_tests}
 use Rattle.std.specs.Int.RustNames.{unsigned_abs}
 use Rattle.git_lemmas.specs.Members.{Member}
-use Rattle.git_defs.specs.Vectors.{Vector, AllOfLength, HasRank, HasZeroSum, AreIndependent, dot, plus}
+use Rattle.git_defs.specs.Vectors.{Vector, HasRank, HasZeroSum, dot}
 use Rattle.git_defs.proofs.Lengths.{OfLength}
 use Rattle.git_geometry.proofs.ZeroSums.{positive_no_zero_sum}
 use Rattle.git_minors.specs.Minors.{determinant}
@@ -17,7 +17,7 @@ use Rattle.git_minors.proofs.Sums.{independent_of}
 use Rattle.git_ints.specs.Padded.{AreWithin}
 use Rattle.git_limits.specs.declared.TheConstants.{ROWS, COLUMNS, COLUMN_ENTRY}
 use Rattle.git_grading.specs.Gradings.{IsMatrix, IsGrading}
-use Rattle.git_make.specs.Samples.{drawn_column, corners, points_columns, pair_column, plucker_columns, pairs, drawn, draw, state}
+use Rattle.git_make.specs.Samples.{drawn_column, corners, points_columns, plucker_columns, drawn, draw, state}
 
 -- ---- facts of each member
 

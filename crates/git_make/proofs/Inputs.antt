@@ -1,12 +1,10 @@
 -- Samples are inputs.
-use Rattle.std.proofs.Common.{◌≡◌, ◌⊎◌, ◌∙◌, ℕ, ◌≤◌, List, [], inl, inr, refl, sym, subst, arith}
+use Rattle.std.proofs.Common.{◌≡◌, ◌⊎◌, ◌∙◌, ℕ, ◌≤◌, inl, inr, refl, sym, subst, arith}
 use Rattle.std.proofs.lemmas.Bool.Decides.{eqb_tells}
-use Rattle.git_words.specs.declared.commands.Sample.{Sample}
 use Rattle.git_words.specs.declared.commands.Sample.TheVariants.{Points, Plucker}
-use Rattle.git_words.specs.Laws.{IsSampleInRange}
 use Rattle.git_grading.specs.Gradings.{IsGrading}
 use Rattle.git_input.specs.Inputs.{InputValue, AreGenerators}
-use Rattle.git_make.specs.Samples.{points_of, plucker_of, IsSample, plucker_columns, plucker_relations}
+use Rattle.git_make.specs.Samples.{points_of, plucker_of}
 use Rattle.git_make.specs.Laws.{OneInput, SomeInput, SamplesAreInputs}
 use Rattle.git_make.proofs.Gradings.{points_are_a_grading, four_are_a_grading, five_are_a_grading}
 use Rattle.git_make.proofs.Relations.{no_generators, four_generators, five_generators}

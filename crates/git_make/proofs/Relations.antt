@@ -1,6 +1,6 @@
 -- The Pluecker relations are generators.
-use Rattle.std.proofs.Common.{◌≡◌, ◌⊎◌, ◌∙◌, ℕ, zero, suc, ◌+◌, ◌-◌, ◌*◌, ◌%◌, ◌≤◌, ◌<◌, List, [], ◌∷◌, ◌++◌, length, get_or, map, Option, Some, None, inl, inr, refl, sym, ap, subst, arith}
-use Rattle.std.specs.Prelude.{All, Contains, IfSome, IsNone, IsSome, pos, ℤ}
+use Rattle.std.proofs.Common.{◌≡◌, ◌∙◌, ℕ, zero, suc, ◌+◌, ◌%◌, ◌≤◌, ◌<◌, List, [], ◌∷◌, ◌++◌, length, get_or, Option, Some, None, inl, inr, refl, sym, ap, subst, arith}
+use Rattle.std.specs.Prelude.{IfSome, IsNone, IsSome}
 use Rattle.std.specs.declared.cmp.Ordering.{Ordering}
 use Rattle.std.specs.declared.cmp.Ordering.TheVariants.{Less, Equal, Greater}
 use Rattle.std.specs.Ordering.{nat_cmp}
@@ -18,10 +18,10 @@ use Rattle.git_algebra.specs.Operations.{plus, minus, term_of}
 use Rattle.git_algebra.proofs.Every.{Every, every-append, every-normal, all_from_every}
 use Rattle.git_algebra.proofs.Monomials.{exponent-times, exponent_same, exponent_other, one-times, degree-times, degree_sum}
 use Rattle.git_poly.specs.Degrees.{degree_under, HasMonomial, IsGradedBy, AreGradedBy, IsHomogeneous}
-use Rattle.git_limits.specs.declared.TheConstants.{GENERATORS, TERMS, EXPONENT}
+use Rattle.git_limits.specs.declared.TheConstants.{GENERATORS, TERMS}
 use Rattle.git_grading.specs.Gradings.{Degrees}
 use Rattle.git_input.specs.Inputs.{AreGenerators}
-use Rattle.git_make.specs.Samples.{three_terms, plucker_columns, plucker_relations, pair_product}
+use Rattle.git_make.specs.Samples.{three_terms, plucker_columns, plucker_relations}
 use Rattle.git_make.proofs.Gradings.{Each, each_all, each_weaker}
 
 -- ---- few terms
