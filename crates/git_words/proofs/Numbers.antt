@@ -1,6 +1,6 @@
 -- A word stands for one number at most, and options hold one value at most.
 use Rattle.std.proofs.Common.{◌≡◌, ◌∙◌, ℕ, ◌≤◌, List, length, Option, Some, None, Bool, true, false, inl, inr, refl, sym, ap, arith}
-use Rattle.std.specs.Option.{option_to_list, unwrap_or}
+use Rattle.std.specs.Option.{option_to_list}
 use Rattle.std.specs.Prelude.{nat_le, ◌&&◌}
 use Rattle.std.specs.List.{list_all}
 use mathlib.Core.Bool.{cond}
@@ -26,15 +26,6 @@ one_given values default a b (inl p) (inl q) = p.1 ∙ sym q.1
 one_given values default a b (inl p) (inr q) = absurd (cc (p.0, q))
 one_given values default a b (inr p) (inl q) = absurd (cc (p, q.0))
 one_given values default a b (inr p) (inr q) = cc
-
--- an option that holds what was given gives the value, or its default
-pub unwrapped : {A : Type 0} (o : Option A) (values : List A) (default : A) → option_to_list o ≡ values → IsGiven values default (unwrap_or o default)
-unwrapped None values default e = inl (sym e, refl)
-unwrapped (Some a) values default e = inr (sym e)
-
-pub flagged : (b : Bool) (values : List Bool) → flag b ≡ values → IsGiven values false b
-flagged true values e = inr (sym e)
-flagged false values e = inl (sym e, refl)
 
 -- what was given can be held
 pub held : {A : Type 0} (values : List A) (default a : A) → IsGiven values default a → (o : Option A) × (option_to_list o ≡ values)

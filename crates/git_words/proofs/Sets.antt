@@ -1,27 +1,16 @@
 -- What settings set, one after the other.
 use Rattle.std.proofs.Common.{◌≡◌, ◌∙◌, ℕ, ◌≤◌, List, [], ◌∷◌, ◌++◌, length, append_assoc, Option, Some, None, Bool, true, false, inl, inr, refl, sym, ap, subst, arith}
 use Rattle.std.specs.Prelude.{IfSome}
-use Rattle.std.specs.Option.{option_to_list, unwrap_or}
-use Rattle.std.proofs.lemmas.List.{length-append, append-nil}
+use Rattle.std.specs.Option.{option_to_list}
+use Rattle.std.proofs.lemmas.List.{length-append}
 use Rattle.git_words.specs.declared.commands.TheConstants.{WORKERS_UNSET, TABLE_UNSET, STEPS_UNSET}
 use Rattle.git_words.specs.declared.settings.Setting.{Setting}
 use Rattle.git_words.specs.declared.settings.Setting.TheVariants.{Workers, Table, Steps, Certs}
 use Rattle.git_words.specs.declared.options.Options.{Options}
 use Rattle.git_words.specs.declared.options.TheConstants.{UNSET}
 use Rattle.git_words.specs.Words.{Begins, AreSettings, Adds, AddsOne, IsTwice, SetsMore, IsFan, IsFaces, IsGiven, given, flag, workers_of, table_of, steps_of, certs_of}
-use Rattle.git_words.proofs.Numbers.{unwrapped, flagged, held, short_option, short_flag, one_given}
+use Rattle.git_words.proofs.Numbers.{held, short_option, short_flag, one_given}
 use Rattle.git_words.proofs.OneSetting.{no_begin, one_begin, one_list, subst_begins, are_by}
-
--- no word sets nothing
-pub adds_none : (o : Options) (words : List (List ℕ)) → words ≡ [] → Adds o words o
-adds_none o words e = record {
-  settings = [];
-  are = e;
-  workers = sym (append-nil (option_to_list o.workers));
-  table = sym (append-nil (option_to_list o.table));
-  steps = sym (append-nil (option_to_list o.steps));
-  certs = sym (append-nil (flag o.certs));
-}
 
 joined_up : {A : Type 0} (before mid after one more : List A) → mid ≡ before ++ one → after ≡ mid ++ more → after ≡ before ++ (one ++ more)
 joined_up before mid after one more p q = q ∙ ap (λ l. l ++ more) p ∙ append_assoc before one more
@@ -100,16 +89,6 @@ adds_found before mid s words rest begins one (Some after) h = adds_more before 
 
 -- ---- the words after `fan` and after `faces`
 
-pub fan_is : (words : List (List ℕ)) (o : Options) → Adds UNSET words o → IsFan words (unwrap_or o.workers WORKERS_UNSET) (unwrap_or o.table TABLE_UNSET) (unwrap_or o.steps STEPS_UNSET) o.certs
-fan_is words o h = record {
-  settings = h.settings;
-  are = h.are;
-  gives_workers = unwrapped o.workers (given workers_of h.settings) WORKERS_UNSET h.workers;
-  gives_table = unwrapped o.table (given table_of h.settings) TABLE_UNSET h.table;
-  gives_steps = unwrapped o.steps (given steps_of h.settings) STEPS_UNSET h.steps;
-  gives_certs = flagged o.certs (given certs_of h.settings) h.certs;
-}
-
 certs_true : (settings : List Setting) (c : Bool) (more : List Bool) → given certs_of settings ≡ c ∷ more → c ≡ true
 certs_true [] c more e = absurd (cc e)
 certs_true (Workers n ∷ settings) c more e = certs_true settings c more e
@@ -137,16 +116,6 @@ nothing_held (Some a) e = absurd (cc e)
 no_flag : (b : Bool) → flag b ≡ [] → b ≡ false
 no_flag true e = absurd (cc e)
 no_flag false e = refl
-
-pub faces_is : (words : List (List ℕ)) (o : Options) → o.workers ≡ None → o.table ≡ None → o.certs ≡ false → Adds UNSET words o → IsFaces words (unwrap_or o.steps STEPS_UNSET)
-faces_is words o w t c h = record {
-  settings = h.settings;
-  are = h.are;
-  no_workers = sym h.workers ∙ ap option_to_list w;
-  no_table = sym h.table ∙ ap option_to_list t;
-  no_certs = sym h.certs ∙ ap flag c;
-  gives_steps = unwrapped o.steps (given steps_of h.settings) STEPS_UNSET h.steps;
-}
 
 pub faces_adds : (words : List (List ℕ)) (steps : ℕ) → IsFaces words steps → (o : Options) × Adds UNSET words o
 faces_adds words steps h =

@@ -78,13 +78,7 @@ fn fan_with_its_options(rt: HostRuntime) {
 }
 
 #[test]
-fn faces_and_samples(rt: HostRuntime) {
-    let points = Sample::Points { n: 4, seed: 7 };
-    let last = Sample::Points {
-        n: 16,
-        seed: 999_999_999,
-    };
-    let plucker = Sample::Plucker { n: 5 };
+fn faces_with_steps(rt: HostRuntime) {
     assert!(rt;
         spell(&[
             (&["faces"], Command::Faces { steps: 20_000_000 }),
@@ -93,48 +87,35 @@ fn faces_and_samples(rt: HostRuntime) {
                 &["faces", "--steps=20000000"],
                 Command::Faces { steps: 20_000_000 }
             ),
-            (
-                &["make", "points", "4", "7"],
-                Command::Make {
-                    sample: points,
-                    run: false
-                }
-            ),
+        ])
+    );
+}
+
+/// A sample, and whether it is run.
+fn made(sample: Sample, run: bool) -> Command {
+    Command::Make { sample, run }
+}
+
+#[test]
+fn samples_with_and_without_a_run(rt: HostRuntime) {
+    let four = Sample::Points { n: 4, seed: 7 };
+    let three = Sample::Points { n: 3, seed: 0 };
+    let last = Sample::Points {
+        n: 16,
+        seed: 999_999_999,
+    };
+    let planes = Sample::Plucker { n: 5 };
+    assert!(rt;
+        spell(&[
+            (&["make", "points", "4", "7"], made(four, false)),
             (
                 &["make", "points", "04", "000000007", "--run"],
-                Command::Make {
-                    sample: points,
-                    run: true
-                }
+                made(four, true)
             ),
-            (
-                &["make", "points", "16", "999999999"],
-                Command::Make {
-                    sample: last,
-                    run: false
-                }
-            ),
-            (
-                &["make", "points", "3", "0"],
-                Command::Make {
-                    sample: Sample::Points { n: 3, seed: 0 },
-                    run: false
-                }
-            ),
-            (
-                &["make", "plucker", "5", "--run"],
-                Command::Make {
-                    sample: plucker,
-                    run: true
-                }
-            ),
-            (
-                &["make", "plucker", "5"],
-                Command::Make {
-                    sample: plucker,
-                    run: false
-                }
-            ),
+            (&["make", "points", "3", "0"], made(three, false)),
+            (&["make", "points", "16", "999999999"], made(last, false)),
+            (&["make", "plucker", "5"], made(planes, false)),
+            (&["make", "plucker", "5", "--run"], made(planes, true)),
         ])
     );
 }
