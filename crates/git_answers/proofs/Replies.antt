@@ -6,9 +6,9 @@ use Rattle.git_base.specs.declared.status.Status.{Status}
 use Rattle.git_limits.specs.declared.TheConstants.{INPUT_BYTES}
 use Rattle.git_input.specs.Inputs.{InputValue}
 use Rattle.git_text.specs.Grammar.{IsInput}
-use Rattle.git_answers.specs.Cases.{Case, Passes, ◌otherwise◌, says}
+use Rattle.git_answers.specs.Cases.{Case, Outcome, Passes, ◌otherwise◌, says}
 use Rattle.git_answers.specs.Reads.{reads}
-use Rattle.git_answers.specs.Ends.{spelled, spelled_for, Reply, over, Ends, whole, cut, unread, starved, WritesOr}
+use Rattle.git_answers.specs.Ends.{spelled, spelled_of, Reply, over, Ends, whole, cut, unread, starved, WritesOr}
 use Rattle.git_answers.proofs.ReadLaws.{few_pass, input_passes}
 
 module _ (v : InputValue) where
@@ -40,12 +40,21 @@ module _ (v : InputValue) where
 
 -- an input that is not too long is answered by its cases
 pub input_replied : (cases : InputValue → Case) (bytes : List ℕ) (v : InputValue) (s : Status) (text : List ℕ) → length bytes ≤ INPUT_BYTES → IsInput bytes v
-    → spelled v (cases v) s text → spelled_for bytes (reads cases bytes) s text
+    → spelled v (cases v) s text → spelled_of (IsInput bytes) (reads cases bytes) s text
 input_replied cases bytes v s text few is c = (c.0, inr (few_pass bytes few, inr (input_passes bytes v is, (v, is, c.1))), c.2, (c.3.0, inr (v, is, c.3.1), c.3.2))
 
--- a text with no certificates, whatever the bytes are
-pub plain_for : (bytes : List ℕ) (C : Case) (s t : Status) (text given : List ℕ) → C (says s given) → t ≡ s → text ≡ given → spelled_for bytes C t text
-plain_for bytes C s t text given c status spelling = (says s given, c, sym status, ([], inl (refl, refl), spelling ∙ sym (append-nil given)))
+-- a text with no certificates, whatever is told
+pub plain_of : (IsTold : InputValue → Type 0) (C : Case) (s t : Status) (text given : List ℕ) → C (says s given) → t ≡ s → text ≡ given → spelled_of IsTold C t text
+plain_of IsTold C s t text given c status spelling = (says s given, c, sym status, ([], inl (refl, refl), spelling ∙ sym (append-nil given)))
+
+-- the cases of an input that is told
+pub told_replied : (IsTold : InputValue → Type 0) (C D : Case) (v : InputValue) (s : Status) (text : List ℕ) → IsTold v → ((o : Outcome) → C o → D o) → spelled v C s text → spelled_of IsTold D s text
+told_replied IsTold C D v s text told gives c = (c.0, gives c.0 c.1, c.2, (c.3.0, inr (v, told, c.3.1), c.3.2))
+
+-- more may be told, and the cases may be more
+pub more_replied : (Few More : InputValue → Type 0) (C D : Case) (s : Status) (text : List ℕ) → ((v : InputValue) → Few v → More v) → ((o : Outcome) → C o → D o) → spelled_of Few C s text → spelled_of More D s text
+more_replied Few More C D s text told gives (o, c, is, (after, inl none, spells)) = (o, gives o c, is, (after, inl none, spells))
+more_replied Few More C D s text told gives (o, c, is, (after, inr (v, few, tail), spells)) = (o, gives o c, is, (after, inr (v, told v few, tail), spells))
 
 -- bytes that may have been left
 pub bytes_left : (left : Option (List ℕ)) → (bytes : List ℕ) × IfSome left (λ bs. bs ≡ bytes)

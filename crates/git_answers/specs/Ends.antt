@@ -6,7 +6,6 @@ use Rattle.git_base.specs.Prefixes.{GrowsByPrefix}
 use Rattle.git_base.specs.declared.status.Status.{Status}
 use Rattle.git_base.specs.declared.status.Status.TheVariants.{ReadFault, WriteFault, NoMemory}
 use Rattle.git_input.specs.Inputs.{InputValue}
-use Rattle.git_text.specs.Grammar.{IsInput}
 use Rattle.git_answers.specs.Cases.{Tail, nothing, Outcome, Case}
 use Rattle.git_answers.specs.Verdicts.{IsTail}
 
@@ -18,13 +17,13 @@ Reply = Status → List ℕ → Type 0
 abbrev pub spelled : InputValue → Case → Reply
 spelled v cases s text = (o : Outcome) × cases o × (o.status ≡ s) × ((after : List ℕ) × IsTail v o.tail after × (text ≡ o.text ++ after))
 
--- the certificates that are to follow for bytes: those of the input that they are
-abbrev pub IsTailOf : List ℕ → Tail → List ℕ → Type 0
-IsTailOf bytes tail text = ((tail ≡ nothing) × (text ≡ [])) ⊎ ((v : InputValue) × IsInput bytes v × IsTail v tail text)
+-- the certificates that are to follow: those of such an input
+abbrev pub IsTailOf : (InputValue → Type 0) → Tail → List ℕ → Type 0
+IsTailOf IsTold tail text = ((tail ≡ nothing) × (text ≡ [])) ⊎ ((v : InputValue) × IsTold v × IsTail v tail text)
 
--- the same for bytes
-abbrev pub spelled_for : List ℕ → Case → Reply
-spelled_for bytes cases s text = (o : Outcome) × cases o × (o.status ≡ s) × ((after : List ℕ) × IsTailOf bytes o.tail after × (text ≡ o.text ++ after))
+-- the same for cases that tell of such an input, or of none
+abbrev pub spelled_of : (InputValue → Type 0) → Case → Reply
+spelled_of IsTold cases s text = (o : Outcome) × cases o × (o.status ≡ s) × ((after : List ℕ) × IsTailOf IsTold o.tail after × (text ≡ o.text ++ after))
 
 -- the answers to the bytes that the source had left, which are any bytes where it tells none
 abbrev pub over : Option (List ℕ) → (List ℕ → Reply) → Reply

@@ -5,7 +5,6 @@ use Rattle.git_base.specs.declared.status.Status.TheVariants.{Done}
 use Rattle.git_input.specs.Inputs.{InputValue}
 use Rattle.git_answers.specs.Cases.{Case, ◌otherwise◌, IsFirst, says, certificates}
 use Rattle.git_answers.specs.Verdicts.{StopsAt, StopsWith, stop_text}
-use Rattle.git_answers.specs.Reads.{reads}
 
 -- the run of a full face stops: the greatest such face is named
 abbrev pub face_stops : InputValue → ℕ → Case
@@ -17,7 +16,3 @@ certifies o = o ≡ record { status = Done; text = []; tail = certificates }
 
 abbrev pub faces_of : ℕ → InputValue → Case
 faces_of limit v = face_stops v limit otherwise certifies
-
--- with so many steps
-abbrev pub faces_answer : ℕ → List ℕ → Case
-faces_answer limit = reads (faces_of limit)

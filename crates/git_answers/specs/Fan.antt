@@ -1,5 +1,6 @@
 -- The answer of `fan` by cases.
-use Rattle.std.specs.Prelude.{◌≡◌, ◌≢◌, ℕ, ◌+◌, ◌*◌, ◌^◌, ◌<◌, ◌≤◌, List, [], ◌∷◌, ◌++◌, length, map, codes}
+use Rattle.std.specs.Prelude.{◌≡◌, ◌≢◌, ℕ, ◌+◌, ◌*◌, ◌^◌, ◌<◌, ◌≤◌, Bool, true, false, List, [], ◌∷◌, ◌++◌, length, map, codes}
+use Rattle.std.specs.List.{sum_by, count_by}
 use Rattle.std.specs.Fmt.{decimal, signed_decimal}
 use Rattle.std.specs.declared.cmp.Ordering.TheVariants.{Greater}
 use Rattle.git_base.specs.declared.status.Status.{Status}
@@ -17,21 +18,22 @@ use Rattle.git_machine.specs.Signatures.{Signature, numbers_of, signature_cmp}
 use Rattle.git_machine.specs.Reach.{Reached, ReachExceeds}
 use Rattle.git_orbit.specs.Orbits.{Fan, AreOrbitCones}
 use Rattle.git_orbit.specs.Signatures.{IsSignature, width_of}
-use Rattle.git_listing.specs.Listings.{Listing}
+use Rattle.git_listing.specs.Listings.{Side, boundary, inner, Chamber, Listing}
 use Rattle.git_listing.specs.ListingText.{listing_text}
 use Rattle.git_chamber.specs.Chambers.{first_germ, IsCell, IsNext}
 use Rattle.git_chamber.specs.Listings.{IsListing}
 use Rattle.git_chamber.specs.declared.cell.Cell.{Cell}
 use Rattle.git_chamber.specs.declared.cell.Cell.TheVariants as cell
-use Rattle.git_answers.specs.Cases.{Case, Tail, block, ◌otherwise◌, IsFirst, Outcome, says}
+use Rattle.git_answers.specs.Cases.{Case, block, certificates, ◌otherwise◌, IsFirst, Outcome, says}
 use Rattle.git_answers.specs.Verdicts.{whole_face, StopsAt, StopsWith, stop_text}
-use Rattle.git_answers.specs.Reads.{reads}
+use Rattle.git_answers.specs.declared.output.Output.{Output}
+use Rattle.git_answers.specs.declared.output.Output.TheVariants.{Plain, Certified, Counted}
 
--- the numbers that come with the words, and the certificates that are asked for
+-- the numbers that come with the words, and what is to be written
 pub record Options : Type 0 where
   pub table : ℕ
   pub steps : ℕ
-  pub certs : Tail
+  pub output : Output
 
 -- ---- the fan of an input
 
@@ -91,6 +93,33 @@ full_text table = line_text (codes "refused" ∷ codes "full" ∷ decimal table 
 abbrev pub monomial_text : List ℕ
 monomial_text = line_text (codes "refused" ∷ codes "monomial" ∷ [])
 
+-- the sides that are inner walls, and those on the boundary
+abbrev pub is_inner : Side → Bool
+is_inner boundary = false
+is_inner (inner n) = true
+
+abbrev pub is_boundary : Side → Bool
+is_boundary boundary = true
+is_boundary (inner n) = false
+
+-- how many facets of all chambers have such a side
+abbrev pub facets_with : (Side → Bool) → List Chamber → ℕ
+facets_with test chambers = sum_by (λ c. count_by (λ f. test f.side) c.facets) chambers
+
+-- the line of so many cones, chambers, inner walls and facets on the boundary
+abbrev pub tally_text : ℕ → ℕ → ℕ → ℕ → List ℕ
+tally_text cones chambers within outer =
+    line_text (codes "cones" ∷ decimal cones ∷ codes "chambers" ∷ decimal chambers ∷ codes "inner" ∷ decimal within ∷ codes "boundary" ∷ decimal outer ∷ [])
+
+abbrev pub counts_text : Listing → List ℕ
+counts_text l = tally_text l.cones (length l.chambers) (facets_with is_inner l.chambers) (facets_with is_boundary l.chambers)
+
+-- what is written of a listing
+abbrev pub written : Output → Listing → Outcome
+written Plain l = says Done (listing_text l)
+written Certified l = record { status = Done; text = listing_text l; tail = certificates }
+written Counted l = says Done (counts_text l)
+
 -- what is answered of a signature that isn't good
 abbrev pub Refuses : Signature → Cell → Case
 Refuses sig (cell.Good c) o = ⊥
@@ -139,9 +168,9 @@ table_full v n o = (fan : Fan) × (first : Signature) × IsOpening v fan first �
 abbrev pub not_good : InputValue → Case
 not_good v o = (fan : Fan) × (first : Signature) × IsOpening v fan first × ((sig : Signature) × IsFirst UpTo (IsBad fan first) sig × IsRefused fan sig o)
 
--- the listing of the chambers
+-- the chambers are listed
 abbrev pub lists : InputValue → Options → Case
-lists v n o = (fan : Fan) × (first : Signature) × IsOpening v fan first × ((l : Listing) × IsListing fan first (length v.degrees.columns) l × (o ≡ record { status = Done; text = listing_text l; tail = n.certs }))
+lists v n o = (fan : Fan) × (first : Signature) × IsOpening v fan first × ((l : Listing) × IsListing fan first (length v.degrees.columns) l × (o ≡ written n.output l))
 
 -- ---- in order
 
@@ -159,6 +188,3 @@ after_whole n v = has_monomial v otherwise (other_stops v n otherwise after_verd
 
 abbrev pub fan_of : Options → InputValue → Case
 fan_of n v = whole_stops v n otherwise after_whole n v
-
-abbrev pub fan_answer : Options → List ℕ → Case
-fan_answer n = reads (fan_of n)

@@ -6,15 +6,17 @@ ghost use Rattle.std.specs.Process.{exit_status};
 ghost use Rattle.git_base.specs.Faults.{HasRisen};
 ghost use Rattle.git_base.specs.Status.{code_of};
 ghost use Rattle.git_base.specs.declared.status.Status.{Status};
-ghost use Rattle.git_top.specs.Commands.{words_of};
+ghost use Rattle.git_words.specs.Words.{words_of};
 ghost use Rattle.git_top.specs.Ends.{over, Ends};
 ghost use Rattle.git_top.specs.Run.{reply_to};
 
 use git_base::{Sink, Source, Status, StdSink, StdSource};
+use git_crew::OpenGate;
 use git_top::gitfan;
 use std::alloc::Global;
 use std::marker::Sync;
 use std::process::ExitCode;
+use std::sync::Wait;
 use std::thread::Threads;
 use std::{env, io};
 
@@ -31,7 +33,7 @@ fn exit_code(status: Status) -> ExitCode
 }
 
 /// Calls the program, and gives the code of its answer.
-fn answer<R: Threads + Sync, S: Source, K: Sink>(
+fn answer<R: Threads + Wait + Sync, S: Source, K: Sink>(
     rt: &R,
     alloc: Global,
     words: &[&str],
@@ -41,11 +43,11 @@ fn answer<R: Threads + Sync, S: Source, K: Sink>(
     ensures { (status : Status) × (exit_status result ≡ code_of status) × Ends (over (S.left source.old) (reply_to (words_of words.now)))
         (HasRisen (S.faults source.old) (S.faults source.new)) (HasRisen (K.faults sink.old) (K.faults sink.new)) (K.written sink.old) (K.written sink.new) status }
 {
-    exit_code(gitfan(rt, alloc, words, source, sink))
+    exit_code(gitfan(rt, alloc, words, &OpenGate, source, sink))
 }
 
 /// Answers the words over a source and a sink. Words that aren't UTF-8 are no command.
-fn run<R: Threads + Sync, S: Source, K: Sink>(
+fn run<R: Threads + Wait + Sync, S: Source, K: Sink>(
     rt: &R,
     alloc: Global,
     owned: io::Result<Vec<String>>,

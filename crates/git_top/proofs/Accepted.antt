@@ -142,10 +142,8 @@ module _ (v : InputValue) (faces : List FaceVerdict) (are : AreVerdicts v faces)
         | inr w ↦ inr (record { stage = w.0; what = w.1 }, w.2)
       ]
 
-  pub wide_reply : {T E : Type 0} (status_of : T → Status) (bytes_of : T → List ℕ) (r : Result T E) (n : Options) (fault : ConesFault) → IsNewFault v.degrees.k v.degrees.columns (Contains masks) fault
-      → IfOk r (λ a. IsWideReply fault (status_of a) (bytes_of a)) → IfOk r (λ a. spelled v (after_verdicts n v) (status_of a) (bytes_of a))
-  wide_reply status_of bytes_of (Err e) n fault f h = tt
-  wide_reply status_of bytes_of (Ok a) n (Wide mask at) f h =
+  pub wide_reply : (n : Options) (s : Status) (text : List ℕ) (fault : ConesFault) → IsNewFault v.degrees.k v.degrees.columns (Contains masks) fault → IsWideReply fault s text → spelled v (after_verdicts n v) s text
+  wide_reply n s text (Wide mask at) f h =
       let first = first_wide mask at f in
-      plain v (after_verdicts n v) statuses.Wide (status_of a) (bytes_of a) (wide_face_text mask at) (inl (mask, first.0, (at, first.1, refl))) h.0 h.1
-  wide_reply status_of bytes_of (Ok a) n NoMemory f h = absurd h
+      plain v (after_verdicts n v) statuses.Wide s text (wide_face_text mask at) (inl (mask, first.0, (at, first.1, refl))) h.0 h.1
+  wide_reply n s text NoMemory f h = absurd h

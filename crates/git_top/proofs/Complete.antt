@@ -1,5 +1,5 @@
 -- What nothing refuses is done.
-use Rattle.std.proofs.Common.{◌≡◌, ◌≢◌, ◌∙◌, ℕ, ◌≤◌, ◌<◌, Bool, List, length, ap, arith}
+use Rattle.std.proofs.Common.{◌≡◌, ◌≢◌, ◌∙◌, ℕ, ◌≤◌, ◌<◌, Bool, List, length, ap, subst, arith}
 use Rattle.git_base.specs.declared.status.Status.{Status}
 use Rattle.git_input.specs.Inputs.{InputValue}
 use Rattle.git_text.specs.Grammar.{IsInput}
@@ -10,8 +10,12 @@ use Rattle.git_answers.specs.Fan.{Options, whole_stops, has_monomial, other_stop
 use Rattle.git_answers.proofs.CaseLaws.{later}
 use Rattle.git_answers.proofs.ReadLaws.{reads_input}
 use Rattle.git_answers.specs.Verdicts.{whole_face}
-use Rattle.git_top.specs.Commands.{options}
-use Rattle.git_top.specs.Laws.{FacesAreDone, InputsAreDone}
+use Rattle.git_base.specs.declared.status.Status.TheVariants.{Done}
+use Rattle.git_grading.specs.Gradings.{IsGrading}
+use Rattle.git_make.proofs.Inputs.{one_input, samples_are_inputs}
+use Rattle.git_top.specs.Commands.{options, output_of, sample_options}
+use Rattle.git_top.specs.Laws.{FacesAreDone, InputsAreDone, NothingRefuses, SamplesAreDone}
+use Rattle.git_top.proofs.NotGood.{written_done}
 use Rattle.git_top.proofs.FullFaces.{whole_full}
 
 pub faces_are_done : FacesAreDone
@@ -19,15 +23,24 @@ faces_are_done steps bytes v o few is ends h =
     let c = later (face_stops v steps) certifies o (λ p stop. ends stop.0 stop.1.holds.0 stop.1.holds.1.0 stop.1.holds.1.1) (reads_input (faces_of steps) bytes v o few is h) in
     ap (λ (p : Outcome). p.status) c
 
-pub inputs_are_done : InputsAreDone
-inputs_are_done table steps certs bytes v o few is none h =
-    let n : Options = options table steps certs in
-    let g = text_is_a_grading is.matrix_lines v.degrees is.matrix in
-    let a = later (whole_stops v n) (after_whole n v) o (λ p stop. none.ends (whole_face v) (whole_full v g) stop.0 stop.1) (reads_input (fan_of n) bytes v o few is h) in
+fan_done : (v : InputValue) (n : Options) (o : Outcome) → IsGrading v.degrees.k v.degrees.columns → NothingRefuses v n.table n.steps → fan_of n v o → o.status ≡ Done
+fan_done v n o g none h =
+    let a = later (whole_stops v n) (after_whole n v) o (λ p stop. none.ends (whole_face v) (whole_full v g) stop.0 stop.1) h in
     let b = later (has_monomial v) (other_stops v n otherwise after_verdicts n v) o (λ p has. has.0 none.a_face) a in
     let c = later (other_stops v n) (after_verdicts n v) o (λ p stop. none.ends stop.0 stop.1.holds.1.0 stop.1.holds.1.1.0 stop.1.holds.1.1.1) b in
     let d = later (wide_cone v) (after_cones n v) o (λ p wide. none.narrow wide.0 wide.2.0 wide.2.1) c in
     let e = later (table_wide v n) (table_full v n otherwise after_reach n v) o (λ p wide. (let fits = none.fits wide.0 wide.1 in let more = wide.2 in omega (arith, fits, more))) d in
     let f = later (table_full v n) (after_reach n v) o (λ p full. none.reach full.0 full.1 full.2 full.3) e in
     let l = later (not_good v) (lists v n) o (λ p bad. none.good bad.0 bad.1 bad.3.0 bad.2 bad.3.1.holds) f in
-    ap (λ (p : Outcome). p.status) l.3.2
+    ap (λ (p : Outcome). p.status) l.3.2 ∙ written_done n.output l.3.0
+
+pub inputs_are_done : InputsAreDone
+inputs_are_done workers table steps certs bytes v o few is none h =
+    let n : Options = options table steps (output_of certs) in
+    fan_done v n o (text_is_a_grading is.matrix_lines v.degrees is.matrix) none (reads_input (fan_of n) bytes v o few is h)
+
+pub samples_are_done : SamplesAreDone
+samples_are_done sample bytes v o range is = record {
+  written = λ h. ap (λ (p : Outcome). p.status) h.2;
+  counted = λ none h. (let same = one_input sample h.0 v h.1 is in fan_done v sample_options o (samples_are_inputs sample v range is).0 none (subst (λ (w : InputValue). fan_of sample_options w o) same h.2));
+}

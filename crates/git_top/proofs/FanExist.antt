@@ -51,7 +51,6 @@ use Rattle.git_chamber.proofs.Graphs.{reached_legal}
 use Rattle.git_chamber.proofs.Existence.{cell_exists, next_exists}
 use Rattle.git_chamber.proofs.Firsts.{first_legal}
 use Rattle.git_chamber.proofs.UnitGerms.{of_length_units}
-use Rattle.git_listing.specs.ListingText.{listing_text}
 use Rattle.git_assemble.specs.Assembling.{IsGoodSignature, AllGood}
 use Rattle.git_assemble.proofs.Exists.{a_listing}
 use Rattle.git_faces.specs.FaceVerdicts.{RunEnds}
@@ -60,7 +59,7 @@ use Rattle.git_faces.proofs.FullLists.{some as full_list}
 use Rattle.git_faces.proofs.FirstStops.{some as first_or_all}
 use Rattle.git_answers.specs.Cases.{Passes, HasSome, Settles, IsFirst, Outcome, says, block, ◌otherwise◌}
 use Rattle.git_answers.specs.Verdicts.{IsFullFace, StopsWith, StopsAt, stop_text, start_at, whole_face}
-use Rattle.git_answers.specs.Fan.{Options, IsFanOf, IsOpening, IsWideFace, IsBad, IsRefused, Refuses, UpTo, monomial_text, wide_face_text, wide_chamber_text, crossed_text, table_wide_text, full_text, whole_stops, has_monomial, other_stops, wide_cone, table_wide, table_full, not_good, lists, after_reach, after_cones, after_verdicts, after_whole, fan_of}
+use Rattle.git_answers.specs.Fan.{Options, written, IsFanOf, IsOpening, IsWideFace, IsBad, IsRefused, Refuses, UpTo, monomial_text, wide_face_text, wide_chamber_text, crossed_text, table_wide_text, full_text, whole_stops, has_monomial, other_stops, wide_cone, table_wide, table_full, not_good, lists, after_reach, after_cones, after_verdicts, after_whole, fan_of}
 use Rattle.git_answers.proofs.CaseLaws.{some_of}
 use Rattle.git_top.proofs.FacesExist.{stop_of}
 use Rattle.git_top.proofs.FullFaces.{runs_on, whole_full, StartsWhole, starts_whole, first_other}
@@ -325,7 +324,7 @@ module _ (v : InputValue) (n : Options) (g : IsGrading v.degrees.k v.degrees.col
           | inl good ↦ (
               let all : AllGood fan first.0 = λ s r. good s (contains_member s xs (l.reach.complete s r)) in
               let listing = a_listing fan first.0 (length v.degrees.columns) xs legal l.reach all in (
-                record { status = status.Done; text = listing_text listing.0; tail = n.certs },
+                written n.output listing.0,
                 inr (
                   (λ o h. (let there = opening_along v fan h.0 first.0 h.1 (λ f s. AllGood f s) opening h.2 all in good_not_refused h.0 h.3.0 o (there h.3.0 h.3.1.holds.0) h.3.2)),
                   (fan, first.0, opening, (listing.0, listing.1, refl)),

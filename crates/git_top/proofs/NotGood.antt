@@ -23,13 +23,18 @@ use Rattle.git_chamber.specs.Nexts.{good_not_crossed}
 use Rattle.git_chamber.specs.declared.cell.Cell.{Cell}
 use Rattle.git_chamber.specs.declared.cell.Cell.TheVariants as cell
 use Rattle.git_listing.specs.Listings.{Listing}
-use Rattle.git_listing.specs.ListingText.{listing_text}
 use Rattle.git_assemble.specs.Assembling.{AllGood, IsFirstBad, IsGoodSignature, IsFirstSignature, IsClosure}
 use Rattle.git_answers.specs.Cases.{Case, Passes, IsFirst, Outcome, says, ◌otherwise◌}
 use Rattle.git_answers.specs.Ends.{spelled}
 use Rattle.git_answers.specs.Verdicts.{IsTail}
-use Rattle.git_answers.specs.Fan.{Options, IsOpening, IsBad, IsRefused, Refuses, UpTo, not_good, lists, after_reach}
-use Rattle.git_top.specs.Fans.{IsGraphOf}
+use Rattle.git_answers.specs.Fan.{Options, IsOpening, IsBad, IsRefused, Refuses, UpTo, written, wide_chamber_text, crossed_text, not_good, lists, after_reach}
+use Rattle.git_answers.specs.declared.output.Output.{Output}
+use Rattle.git_answers.specs.declared.output.Output.TheVariants.{Plain, Certified, Counted}
+use Rattle.git_assemble.specs.Assembling.{IsAssembleFault}
+use Rattle.git_assemble.specs.declared.fault.AssembleFault.{AssembleFault}
+use Rattle.git_assemble.specs.declared.fault.AssembleFault.TheVariants as bad
+use Rattle.git_answers.proofs.Replies.{plain}
+use Rattle.git_top.specs.Fans.{IsGraphOf, IsNarrow, IsNotGoodReply}
 use Rattle.git_orbit.specs.Signatures.{IsLegal, width_of}
 use Rattle.git_chamber.proofs.Graphs.{reached_legal}
 use Rattle.git_top.proofs.OneFan.{opening_along, opens}
@@ -59,19 +64,25 @@ none_bad v g first of is good o h =
     let there = opening_along v g.fan h.0 first h.1 (λ fan f. AllGood fan f) (opens v g first of is) h.2 good in
     good_not_refused h.0 h.3.0 o (there h.3.0 h.3.1.holds.0) h.3.2
 
--- the listing, and the certificates after it
+-- a listing is done, whatever is written of it
+pub written_done : (output : Output) (l : Listing) → (written output l).status ≡ statuses.Done
+written_done Plain l = refl
+written_done Certified l = refl
+written_done Counted l = refl
+
+-- the listing, and what follows it
 pub listed_reply : (v : InputValue) (n : Options) (g : Graph) (first : Signature) (l : Listing) (s : Status) (text after : List ℕ) → IsGraphOf v g → IsFirstSignature g first → AllGood g.fan first
-    → IsListing g.fan first (length g.columns) l → s ≡ statuses.Done → IsTail v n.certs after → text ≡ listing_text l ++ after → spelled v (after_reach n v) s text
+    → IsListing g.fan first (length g.columns) l → s ≡ statuses.Done → IsTail v (written n.output l).tail after → text ≡ (written n.output l).text ++ after → spelled v (after_reach n v) s text
 listed_reply v n g first l s text after of is good listing status tail spelling = (
-  record { status = statuses.Done; text = listing_text l; tail = n.certs },
+  written n.output l,
   inr (none_bad v g first of is good, (g.fan, first, opens v g first of is, (l, subst (λ (r : ℕ). IsListing g.fan first r l) (ap length of.columns) listing, refl))),
-  sym status,
+  written_done n.output l ∙ sym status,
   (after, tail, spelling),
 )
 
 pub listed_answer : {T E : Type 0} (status_of : T → Status) (bytes_of : T → List ℕ) (r : Result T E) (v : InputValue) (n : Options) (g : Graph) (first : Signature) (l : Listing) → IsGraphOf v g → IsFirstSignature g first
     → AllGood g.fan first → IsListing g.fan first (length g.columns) l → IfOk r (λ a. status_of a ≡ statuses.Done)
-    → IfOk r (λ a. (after : List ℕ) × IsTail v n.certs after × (bytes_of a ≡ listing_text l ++ after)) → IfOk r (λ a. spelled v (after_reach n v) (status_of a) (bytes_of a))
+    → IfOk r (λ a. (after : List ℕ) × IsTail v (written n.output l).tail after × (bytes_of a ≡ (written n.output l).text ++ after)) → IfOk r (λ a. spelled v (after_reach n v) (status_of a) (bytes_of a))
 listed_answer status_of bytes_of (Ok a) v n g first l of is good listing status text = listed_reply v n g first l (status_of a) (bytes_of a) text.0 of is good listing status text.1 text.2
 listed_answer status_of bytes_of (Err e) v n g first l of is good listing status text = tt
 
@@ -98,3 +109,18 @@ few_product table width t w = let p : (table + 64) * width ≤ 65600 * 1024 = mu
   where
     mul-le-mul_both : (a b c d : ℕ) → a ≤ b → c ≤ d → a * c ≤ b * d
     mul-le-mul_both a b c d p q = Rattle.std.proofs.Math.Nat.mul-le-mul p q
+
+-- the signature of a fault is reached, and narrow
+pub narrow_fault : (fan : Fan) (first : Signature) (f : AssembleFault) → IsLegal fan first → width_of fan ≤ 1024 → IsAssembleFault fan first f → IsNarrow f
+narrow_fault fan first (bad.Wide sig at) legal few h = few_reached fan first sig legal h.reached few
+narrow_fault fan first (bad.Crossed sig weight cone) legal few h = few_reached fan first sig legal h.reached few
+narrow_fault fan first bad.NoMemory legal few h = tt
+
+-- the fault's line is that of the first signature that isn't good
+pub not_good_replied : (v : InputValue) (n : Options) (g : Graph) (first : Signature) (f : AssembleFault) (s : Status) (text : List ℕ) → IsGraphOf v g → IsFirstSignature g first → IsAssembleFault g.fan first f → IsNotGoodReply f s text
+    → spelled v (after_reach n v) s text
+not_good_replied v n g first (bad.Wide sig at) s text of is h reply =
+    plain v (after_reach n v) statuses.Wide s text (wide_chamber_text sig at) (inl (first_bad v g first sig (cell.Wide at) (says statuses.Wide (wide_chamber_text sig at)) of is h refl)) reply.0 reply.1
+not_good_replied v n g first (bad.Crossed sig weight cone) s text of is h reply =
+    plain v (after_reach n v) statuses.Crossed s text (crossed_text sig weight cone) (inl (first_bad v g first sig (cell.Crossed weight cone) (says statuses.Crossed (crossed_text sig weight cone)) of is h refl)) reply.0 reply.1
+not_good_replied v n g first bad.NoMemory s text of is h reply = absurd reply

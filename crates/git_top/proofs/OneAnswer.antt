@@ -1,23 +1,20 @@
 -- Words and bytes have one answer.
 use Rattle.std.proofs.Common.{◌≡◌, ◌≢◌, ◌⊎◌, ◌∙◌, ℕ, ◌≤◌, ◌<◌, List, [], ◌∷◌, length, Option, Some, None, inl, inr, refl, sym, ap, subst, arith}
-use Rattle.std.specs.Prelude.{codes}
+use Rattle.std.specs.Prelude.{Bool, true, false}
 use Rattle.std.specs.declared.cmp.Ordering.{Ordering}
 use Rattle.std.specs.declared.cmp.Ordering.TheVariants.{Less, Equal, Greater}
 use Rattle.std.specs.Ordering.{ordering_reverse, is_eq}
 use Rattle.git_base.specs.declared.status.Status.{Status}
 use Rattle.git_base.specs.declared.status.Status.TheVariants as status
-use Rattle.git_lines.specs.Numbers.{natural}
 use Rattle.git_defs.specs.Faces.{face}
 use Rattle.git_stages.specs.declared.wide.WideAt.{WideAt}
 use Rattle.git_stages.proofs.Uniqueness.{wide_once}
 use Rattle.git_input.specs.Inputs.{InputValue}
-use Rattle.git_text.specs.Grammar.{IsInput}
 use Rattle.git_machine.specs.Signatures.{Signature, signature_cmp}
 use Rattle.git_machine.specs.Ties.{signature_total, equal_words, level_words}
 use Rattle.git_orbit.specs.Orbits.{Fan}
 use Rattle.git_orbit.specs.Signatures.{width_of}
 use Rattle.git_listing.specs.Listings.{Listing}
-use Rattle.git_listing.specs.ListingText.{listing_text}
 use Rattle.git_chamber.specs.Chambers.{IsCell}
 use Rattle.git_chamber.specs.Listings.{IsListing}
 use Rattle.git_chamber.proofs.Uniqueness.{one_cell}
@@ -26,13 +23,18 @@ use Rattle.git_chamber.specs.declared.cell.Cell.TheVariants as cell
 use Rattle.git_assemble.proofs.OneListing.{one_listing}
 use Rattle.git_answers.specs.Cases.{Case, Passes, HasOne, IsFirst, Outcome, says, ◌otherwise◌}
 use Rattle.git_answers.specs.Verdicts.{StopsWith, StopsAt, stop_text, whole_face}
-use Rattle.git_answers.specs.Fan.{Options, IsOpening, IsBad, IsRefused, Refuses, UpTo, IsWideFace, wide_face_text, table_wide_text, whole_stops, has_monomial, other_stops, wide_cone, table_wide, table_full, not_good, lists, after_reach, after_cones, after_verdicts, after_whole, fan_of}
+use Rattle.git_answers.specs.Fan.{Options, IsOpening, IsBad, IsRefused, Refuses, UpTo, IsWideFace, wide_face_text, table_wide_text, whole_stops, has_monomial, other_stops, wide_cone, table_wide, table_full, written, not_good, lists, after_reach, after_cones, after_verdicts, after_whole, fan_of}
 use Rattle.git_answers.proofs.CaseLaws.{one_of, one_by, one_is, one_first}
 use Rattle.git_answers.proofs.FaceLaws.{one_stop, first_stop_one, faces_one}
 use Rattle.git_answers.proofs.ReadLaws.{reads_one}
-use Rattle.git_top.specs.declared.words.Command.{Command}
-use Rattle.git_top.specs.declared.words.Command.TheVariants as command
-use Rattle.git_top.specs.Commands.{IsCommand, cases_of, options}
+use Rattle.git_words.specs.Words.{IsCommand}
+use Rattle.git_words.specs.declared.commands.Command.{Command}
+use Rattle.git_words.specs.declared.commands.Command.TheVariants as command
+use Rattle.git_words.proofs.OneCommand.{one_command}
+use Rattle.git_make.specs.Samples.{IsSample}
+use Rattle.git_make.proofs.Inputs.{one_input}
+use Rattle.git_text.specs.Writing.{input_text}
+use Rattle.git_top.specs.Commands.{cases_of, options, output_of, sample_options}
 use Rattle.git_top.specs.Run.{no_command, command_answer, answer_to}
 use Rattle.git_top.specs.Laws.{OneAnswer}
 use Rattle.git_top.proofs.OneFan.{one_fan, opening_along}
@@ -88,8 +90,8 @@ not_good_one v x y a b =
 
 lists_one : (v : InputValue) (n : Options) → HasOne (lists v n)
 lists_one v n x y a b =
-    one_by (IsListing b.0 b.1 (length v.degrees.columns)) (λ l o. o ≡ record { status = status.Done; text = listing_text l; tail = n.certs }) (one_listing b.0 b.1 (length v.degrees.columns)) (λ l. one_is _) x y
-    (opening_along v a.0 b.0 a.1 b.1 (λ fan first. (l : Listing) × IsListing fan first (length v.degrees.columns) l × (x ≡ record { status = status.Done; text = listing_text l; tail = n.certs })) a.2 b.2 a.3) b.3
+    one_by (IsListing b.0 b.1 (length v.degrees.columns)) (λ l o. o ≡ written n.output l) (one_listing b.0 b.1 (length v.degrees.columns)) (λ l. one_is _) x y
+    (opening_along v a.0 b.0 a.1 b.1 (λ fan first. (l : Listing) × IsListing fan first (length v.degrees.columns) l × (x ≡ written n.output l)) a.2 b.2 a.3) b.3
 
 fan_one : (v : InputValue) (n : Options) → HasOne (fan_of n v)
 fan_one v n =
@@ -104,41 +106,15 @@ fan_one v n =
 -- ---- commands
 
 cases_one : (c : Command) (v : InputValue) → HasOne (cases_of c v)
-cases_one (command.Fan table steps certs) v = fan_one v (options table steps certs)
+cases_one (command.Fan workers table steps certs) v = fan_one v (options table steps (output_of certs))
 cases_one (command.Faces steps) v = faces_one v steps
+cases_one (command.Make sample false) v = one_is (says status.Done (input_text v))
+cases_one (command.Make sample true) v = fan_one v sample_options
 
 command_one : (c : Command) (bytes : List ℕ) → HasOne (command_answer c bytes)
-command_one c bytes = reads_one (cases_of c) bytes (λ v is. cases_one c v)
-
-heads : (a b : List ℕ) (us vs : List (List ℕ)) → a ∷ us ≡ b ∷ vs → a ≡ b
-heads a b us vs e = cc
-
-fan_is_no_faces : codes "fan" ≡ codes "faces" → ⊥
-fan_is_no_faces e = let h = ap (λ (bs : List ℕ). length bs) e in omega (arith, h)
-
-first_word : (a b : List ℕ) (words us vs : List (List ℕ)) → words ≡ a ∷ us → words ≡ b ∷ vs → a ≡ b
-first_word a b words us vs p q = heads a b us vs (sym p ∙ q)
-
-third_word : (a b : List ℕ) (words : List (List ℕ)) → words ≡ codes "faces" ∷ codes "--steps" ∷ a ∷ [] → words ≡ codes "faces" ∷ codes "--steps" ∷ b ∷ [] → a ≡ b
-third_word a b words p q = cc
-
-number_once : (o : Option ℕ) (m n : ℕ) → o ≡ Some m → o ≡ Some n → m ≡ n
-number_once o m n p q = cc
-
-lengths_differ : (a : List ℕ) (words : List (List ℕ)) → words ≡ codes "faces" ∷ [] → words ≡ codes "faces" ∷ codes "--steps" ∷ a ∷ [] → ⊥
-lengths_differ a words p q = let h = ap (λ (ws : List (List ℕ)). length ws) (sym p ∙ q) in omega (arith, h)
-
-one_command : (words : List (List ℕ)) → HasOne (IsCommand words)
-one_command words (command.Fan table steps certs) (command.Fan other n more) a b = a.1 ∙ sym b.1
-one_command words (command.Fan table steps certs) (command.Faces n) a (inl b) = absurd (fan_is_no_faces (first_word (codes "fan") (codes "faces") words _ _ a.0 b.0))
-one_command words (command.Fan table steps certs) (command.Faces n) a (inr b) = absurd (fan_is_no_faces (first_word (codes "fan") (codes "faces") words _ _ a.0 b.are))
-one_command words (command.Faces n) (command.Fan table steps certs) (inl a) b = absurd (fan_is_no_faces (first_word (codes "fan") (codes "faces") words _ _ b.0 a.0))
-one_command words (command.Faces n) (command.Fan table steps certs) (inr a) b = absurd (fan_is_no_faces (first_word (codes "fan") (codes "faces") words _ _ b.0 a.are))
-one_command words (command.Faces m) (command.Faces n) (inl a) (inl b) = ap command.Faces (a.1 ∙ sym b.1)
-one_command words (command.Faces m) (command.Faces n) (inl a) (inr b) = absurd (lengths_differ b.word words a.0 b.are)
-one_command words (command.Faces m) (command.Faces n) (inr a) (inl b) = absurd (lengths_differ a.word words b.0 a.are)
-one_command words (command.Faces m) (command.Faces n) (inr a) (inr b) =
-    ap command.Faces (number_once (natural a.word) m n a.number.value (ap natural (third_word a.word b.word words a.are b.are) ∙ b.number.value))
+command_one (command.Fan workers table steps certs) bytes = reads_one (cases_of (command.Fan workers table steps certs)) bytes (λ v is. cases_one (command.Fan workers table steps certs) v)
+command_one (command.Faces steps) bytes = reads_one (cases_of (command.Faces steps)) bytes (λ v is. cases_one (command.Faces steps) v)
+command_one (command.Make sample run) bytes = one_by (IsSample sample) (cases_of (command.Make sample run)) (one_input sample) (λ v. cases_one (command.Make sample run) v)
 
 pub one_answer : OneAnswer
 one_answer words bytes =

@@ -1,54 +1,50 @@
--- The commands, and the words that name them.
-use Rattle.std.specs.Prelude.{◌≡◌, ◌⊎◌, ℕ, ◌≤◌, Bool, true, false, List, [], ◌∷◌, length, codes, map, Some}
-use Rattle.std.specs.Borrow.{Bor}
-use Rattle.git_basis.specs.declared.running.TheConstants.{RUN_STEPS}
-use Rattle.git_lines.specs.Numbers.{natural}
+-- The cases of the commands.
+use Rattle.std.specs.Prelude.{◌≡◌, ℕ, Bool, true, false, List}
+use Rattle.git_base.specs.declared.status.Status.TheVariants.{Done}
+use Rattle.git_words.specs.declared.commands.TheConstants.{TABLE_UNSET, STEPS_UNSET}
+use Rattle.git_words.specs.declared.commands.Sample.{Sample}
+use Rattle.git_words.specs.declared.commands.Command.{Command}
+use Rattle.git_words.specs.declared.commands.Command.TheVariants.{Fan, Faces, Make}
 use Rattle.git_input.specs.Inputs.{InputValue}
-use Rattle.git_answers.specs.Cases.{Tail, nothing, certificates, Case}
+use Rattle.git_text.specs.Grammar.{IsInput}
+use Rattle.git_text.specs.Writing.{input_text}
+use Rattle.git_make.specs.Samples.{IsSample}
+use Rattle.git_answers.specs.Cases.{Case, says}
 use Rattle.git_answers.specs.Faces.{faces_of}
 use Rattle.git_answers.specs.Fan.{Options, fan_of}
-use Rattle.git_top.specs.declared.words.Command.{Command}
-use Rattle.git_top.specs.declared.words.Command.TheVariants.{Fan, Faces}
+use Rattle.git_answers.specs.declared.output.Output.{Output}
+use Rattle.git_answers.specs.declared.output.Output.TheVariants.{Plain, Certified, Counted}
 
--- the words as bytes
-abbrev pub words_of : List (Bor (List ℕ)) → List (List ℕ)
-words_of words = map (λ w. w.now) words
+abbrev pub output_of : Bool → Output
+output_of true = Certified
+output_of false = Plain
 
--- one to nine digits that stand for n
-pub record IsNumberWord (word : List ℕ) (n : ℕ) : Type 0 where
-  pub short : length word ≤ 9
-  pub value : natural word ≡ Some n
+abbrev pub options : ℕ → ℕ → Output → Options
+options table steps output = record { table = table; steps = steps; output = output }
 
--- what comes with `fan` alone
-abbrev pub plain_fan : Command
-plain_fan = Fan 4096 RUN_STEPS false
+-- the numbers with which a sample is run
+abbrev pub sample_options : Options
+sample_options = options TABLE_UNSET STEPS_UNSET Counted
 
--- `faces` with a number of steps
-pub record NamesSteps (words : List (List ℕ)) (n : ℕ) : Type 0 where
-  pub word : List ℕ
-  pub are : words ≡ codes "faces" ∷ codes "--steps" ∷ word ∷ []
-  pub number : IsNumberWord word n
-  pub some : 1 ≤ n
-  pub few : n ≤ RUN_STEPS
+-- the text of an input
+abbrev pub is_written : InputValue → Case
+is_written v o = o ≡ says Done (input_text v)
 
--- the words name the command
-abbrev pub IsCommand : List (List ℕ) → Command → Type 0
-IsCommand words (Fan table steps certs) = (words ≡ codes "fan" ∷ []) × (Fan table steps certs ≡ plain_fan)
-IsCommand words (Faces steps) = ((words ≡ codes "faces" ∷ []) × (steps ≡ RUN_STEPS)) ⊎ NamesSteps words steps
-
-abbrev pub tail_of : Bool → Tail
-tail_of true = certificates
-tail_of false = nothing
-
-abbrev pub options : ℕ → ℕ → Bool → Options
-options table steps certs = record { table = table; steps = steps; certs = tail_of certs }
-
--- the cases of a command for an input
+-- the cases of a command for the input of which it tells
 abbrev pub cases_of : Command → InputValue → Case
-cases_of (Fan table steps certs) v = fan_of (options table steps certs) v
+cases_of (Fan workers table steps certs) v = fan_of (options table steps (output_of certs)) v
 cases_of (Faces steps) v = faces_of steps v
+cases_of (Make sample false) v = is_written v
+cases_of (Make sample true) v = fan_of sample_options v
 
--- the numbers are within the limits
-abbrev pub IsInRange : Command → Type 0
-IsInRange (Fan table steps certs) = (1 ≤ table) × (table ≤ 65536) × (1 ≤ steps) × (steps ≤ RUN_STEPS)
-IsInRange (Faces steps) = (1 ≤ steps) × (steps ≤ RUN_STEPS)
+-- the command reads its input
+abbrev pub Reads : Command → Type 0
+Reads (Fan workers table steps certs) = Unit {0}
+Reads (Faces steps) = Unit {0}
+Reads (Make sample run) = ⊥
+
+-- that input: the one that the bytes are, or the sample
+abbrev pub InputOf : Command → List ℕ → InputValue → Type 0
+InputOf (Fan workers table steps certs) bytes v = IsInput bytes v
+InputOf (Faces steps) bytes v = IsInput bytes v
+InputOf (Make sample run) bytes v = IsSample sample v

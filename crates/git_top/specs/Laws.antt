@@ -1,5 +1,5 @@
 -- What holds of the answers.
-use Rattle.std.specs.Prelude.{◌≡◌, ℕ, ◌+◌, ◌*◌, ◌^◌, ◌≤◌, Bool, List, length}
+use Rattle.std.specs.Prelude.{◌≡◌, ℕ, ◌+◌, ◌*◌, ◌^◌, ◌≤◌, Bool, true, false, List, length}
 use Rattle.git_base.specs.declared.status.Status.{Status}
 use Rattle.git_base.specs.declared.status.Status.TheVariants.{Done}
 use Rattle.git_limits.specs.declared.TheConstants.{INPUT_BYTES}
@@ -15,7 +15,11 @@ use Rattle.git_chamber.specs.Chambers.{IsNext}
 use Rattle.git_answers.specs.Cases.{Passes, HasOne, HasSome, Outcome}
 use Rattle.git_answers.specs.Verdicts.{IsFullFace, StopsWith, whole_face}
 use Rattle.git_answers.specs.Fan.{IsFanOf, IsOpening, IsWideFace, IsBad}
-use Rattle.git_top.specs.declared.words.Command.TheVariants as command
+use Rattle.git_words.specs.declared.commands.TheConstants.{TABLE_UNSET, STEPS_UNSET}
+use Rattle.git_words.specs.declared.commands.Sample.{Sample}
+use Rattle.git_words.specs.declared.commands.Command.TheVariants as command
+use Rattle.git_words.specs.Laws.{IsSampleInRange}
+use Rattle.git_make.specs.Samples.{IsSample}
 use Rattle.git_top.specs.Run.{answer_to, command_answer}
 
 -- words and bytes have one answer at most: its status, its text, and which certificates follow
@@ -46,5 +50,13 @@ pub record NothingRefuses (v : InputValue) (table steps : ℕ) : Type 0 where
 
 -- `fan` is done there
 abbrev pub InputsAreDone : Type 0
-InputsAreDone = (table steps : ℕ) (certs : Bool) (bytes : List ℕ) (v : InputValue) (o : Outcome) → length bytes ≤ INPUT_BYTES → IsInput bytes v → NothingRefuses v table steps
-    → command_answer (command.Fan table steps certs) bytes o → o.status ≡ Done
+InputsAreDone = (workers table steps : ℕ) (certs : Bool) (bytes : List ℕ) (v : InputValue) (o : Outcome) → length bytes ≤ INPUT_BYTES → IsInput bytes v → NothingRefuses v table steps
+    → command_answer (command.Fan workers table steps certs) bytes o → o.status ≡ Done
+
+-- `make` is done with a sample, and with its counts where nothing stands in the way of its listing
+pub record IsSampleDone (sample : Sample) (bytes : List ℕ) (v : InputValue) (o : Outcome) : Type 0 where
+  pub written : command_answer (command.Make sample false) bytes o → o.status ≡ Done
+  pub counted : NothingRefuses v TABLE_UNSET STEPS_UNSET → command_answer (command.Make sample true) bytes o → o.status ≡ Done
+
+abbrev pub SamplesAreDone : Type 0
+SamplesAreDone = (sample : Sample) (bytes : List ℕ) (v : InputValue) (o : Outcome) → IsSampleInRange sample → IsSample sample v → IsSampleDone sample bytes v o

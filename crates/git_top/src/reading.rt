@@ -1,31 +1,30 @@
-//! From what a source has left to the answer of a command.
-ghost use Rattle.std.specs.Prelude.{◌≡◌, ◌≤◌, ℕ, length, IfOk, IsErrOf};
+//! What a source has left, as an input, or the answer to its first fault.
+ghost use Rattle.std.specs.Prelude.{◌≡◌, ◌⊎◌, ◌≤◌, ℕ, length, IfOk, IsErrOf};
 ghost use Rattle.std.specs.Io.KnownBytes.{IsAtEnd};
 ghost use Rattle.git_base.specs.Faults.{HasRisen};
 ghost use Rattle.git_base.specs.Prefixes.{LosesPrefix};
 ghost use Rattle.git_base.specs.declared.status.Status.{Status};
-ghost use Rattle.git_answers.specs.Ends.{over, spelled};
 ghost use Rattle.git_answers.specs.Refusals.{fault_text};
 ghost use Rattle.git_text.specs.Reading.{IsFirstFault};
 ghost use Rattle.git_text.specs.declared.fault.BadKind.{BadKind};
 ghost use Rattle.git_text.specs.declared.fault.InputFault.{InputFault};
-ghost use Rattle.git_top.specs.declared.words.Command.{Command};
 ghost use Rattle.git_top.specs.declared.reply.Unanswered.{Unanswered};
-ghost use Rattle.git_top.specs.Commands.{cases_of, IsInRange};
-ghost use Rattle.git_top.specs.Run.{reply_of};
+ghost use Rattle.git_top.specs.Readings.{IsReading, IsRefusal, IsRefused, IsWhole};
 
-use crate::faces::certified;
-use crate::fan::fan_of_input;
 use crate::refusal::refusal;
 use crate::reply::{Reply, Unanswered};
-use crate::words::Command;
 use git_base::{NoMemory, ReadError, Source, Status, read_all};
 use git_input::Input;
 use git_limits::{COLUMNS, INPUT_BYTES};
 use git_text::{BadKind, InputFault, announced_variables, read_input};
 use std::alloc::Global;
-use std::marker::Sync;
-use std::thread::Threads;
+
+/// The input that was read, or the answer to bytes that are none.
+#[derive(Drop)]
+pub(crate) enum Reading {
+    Input(Input),
+    Refused(Reply),
+}
 
 /// The answer to a fault of the bytes.
 fn refused(
@@ -45,31 +44,11 @@ fn refused(
     })
 }
 
-/// The answer of a command to an input.
-fn answer_to_input<R: Threads + Sync>(
-    rt: &R,
-    alloc: Global,
-    command: Command,
-    input: &Input,
-) -> Result<Reply, NoMemory>
-    requires { IsInRange command }
-    ensures { IfOk result (λ a. spelled input.now (cases_of command input.now) a.status a.text.items) }
-{
-    match command {
-        Command::Fan {
-            table,
-            steps,
-            certs,
-        } => fan_of_input(rt, alloc, input, table, steps, certs),
-        Command::Faces { steps } => certified(rt, alloc, input, steps),
-    }
-}
-
-/// The answer of each command to bytes that are no input.
+/// The answer to bytes that are no input.
 fn answer_to_fault(alloc: Global, bytes: &[u8], fault: InputFault) -> Result<Reply, NoMemory>
     requires few { length bytes.now ≤ INPUT_BYTES }
     requires first { (line column : ℕ) → (kind : BadKind) → fault ≡ InputFault.Bad line column kind → IsFirstFault bytes.now line column kind }
-    ensures { IfOk result (λ a. (c : Command) → reply_of c bytes.now a.status a.text.items) }
+    ensures { IfOk result (IsRefusal bytes.now) }
 {
     match fault {
         InputFault::NoMemory => Err(NoMemory),
@@ -79,39 +58,30 @@ fn answer_to_fault(alloc: Global, bytes: &[u8], fault: InputFault) -> Result<Rep
     }
 }
 
-/// The answer of a command to the bytes of an input.
-fn answer_to_bytes<R: Threads + Sync>(
-    rt: &R,
-    alloc: Global,
-    command: Command,
-    bytes: &[u8],
-) -> Result<Reply, NoMemory>
-    requires range { IsInRange command }
+/// The input that the bytes are, or the answer to them.
+fn read_bytes(alloc: Global, bytes: &[u8]) -> Result<Reading, NoMemory>
     requires few { length bytes.now ≤ INPUT_BYTES }
-    ensures { IfOk result (λ a. reply_of command bytes.now a.status a.text.items) }
+    ensures { IfOk result (IsWhole bytes.now) }
 {
     match read_input(alloc, bytes) {
-        Ok(input) => answer_to_input(rt, alloc, command, &input),
-        Err(fault) => answer_to_fault(alloc, bytes, fault),
+        Ok(input) => Ok(Reading::Input(input)),
+        Err(fault) => Ok(Reading::Refused(answer_to_fault(alloc, bytes, fault)?)),
     }
 }
 
-/// The answer of a command to what the source has left.
-pub(crate) fn answer<R: Threads + Sync, S: Source>(
-    rt: &R,
-    alloc: Global,
-    command: Command,
-    source: &mut S,
-) -> Result<Reply, Unanswered>
-    requires { IsInRange command }
-    ensures answers { IfOk result (λ a. over (S.left source.old) (reply_of command) a.status a.text.items) }
-    ensures end { IfOk result (λ a. a.status ≡ Status.Done → IsAtEnd (S.left source.new)) }
+/// The input that the source has left, or the answer to its bytes.
+pub(crate) fn read<S: Source>(alloc: Global, source: &mut S) -> Result<Reading, Unanswered>
+    ensures reading { IfOk result (IsReading (S.left source.old)) }
+    ensures end { IfOk result (λ r. IsAtEnd (S.left source.new) ⊎ IsRefused r) }
     ensures read { IsErrOf result Unanswered.ReadFault → HasRisen (S.faults source.old) (S.faults source.new) }
     ensures lost { LosesPrefix (S.left source.old) (S.left source.new) }
 {
     match read_all(alloc, source, INPUT_BYTES) {
-        Ok(bytes) => Ok(answer_to_bytes(rt, alloc, command, &bytes)?),
-        Err(ReadError::TooLong) => Ok(refused(alloc, 0, 0, 0, &BadKind::TooLong)?),
+        Ok(bytes) => Ok(read_bytes(alloc, &bytes)?),
+        Err(ReadError::TooLong) => {
+            let reply = refused(alloc, 0, 0, 0, &BadKind::TooLong)?;
+            Ok(Reading::Refused(reply))
+        }
         Err(ReadError::ReadFault) => Err(Unanswered::ReadFault),
         Err(ReadError::NoMemory) => Err(Unanswered::NoMemory),
     }
