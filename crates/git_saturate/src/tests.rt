@@ -75,8 +75,14 @@ fn verdict(
     Ok(decide(alloc, &generators, mask, steps))
 }
 
-/// Takes a value that threads may share and move.
-fn shared<T: Send + Sync>(_value: &T) {}
+/// Takes a type that threads may share and move.
+fn shared<T: Send + Sync + Drop>(_value: Option<T>) {}
+
+#[test]
+fn verdicts_may_be_shared(_rt: HostRuntime) {
+    shared::<Verdict>(None);
+    shared::<SatFault>(None);
+}
 
 /// Whether a certificate is a free one.
 fn is_free(cert: &FaceCert) -> bool {
@@ -91,10 +97,7 @@ fn is_free(cert: &FaceCert) -> bool {
 fn is_found(alloc: Global, mask: u16) -> Result<bool, Fail> {
     let left = [12, 18, 33].iter().filter(|m| mask & **m == **m).count();
     match verdict(alloc, &[PLANES], mask, 1000)? {
-        Ok(found) => {
-            shared(&found);
-            Ok(is_free(&found.cert) == found.free && found.free == (left != 1))
-        }
+        Ok(found) => Ok(is_free(&found.cert) == found.free && found.free == (left != 1)),
         Err(_) => Ok(false),
     }
 }
@@ -162,10 +165,7 @@ fn a_product_of_two_variables_is_refuted(rt: HostRuntime) -> Result<(), Fail> {
 /// The steps made, where the run stops by steps.
 fn first_step(alloc: Global) -> Result<Option<Step>, Fail> {
     match verdict(alloc, &[PLANES], 63, 1)? {
-        Err(SatFault::Steps(trace)) => {
-            shared(&trace);
-            Ok(trace.steps.first().copied())
-        }
+        Err(SatFault::Steps(trace)) => Ok(trace.steps.first().copied()),
         _ => Ok(None),
     }
 }
