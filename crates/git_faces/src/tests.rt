@@ -2,7 +2,7 @@
 use super::*;
 use git_base::NoMemory;
 use git_basis::RUN_STEPS;
-use git_facecert::FaceCert;
+use git_facecert::{Accepted, FaceCert, accept};
 use git_input::Input;
 use git_text::read_input;
 use std::alloc::Global;
@@ -112,6 +112,36 @@ fn is_met<R: Threads + Sync>(rt: &R, alloc: Global, case: &Case) -> Option<bool>
             _ => false,
         },
     )
+}
+
+/// Whether the check of certificates accepts that of a verdict, of at most 100 lines.
+fn is_accepted(alloc: Global, input: &Input, v: &FaceVerdict) -> bool {
+    let lines = match &v.cert {
+        FaceCert::Monomial { cofactors, .. } => cofactors.len(),
+        FaceCert::Free { basis } => basis.len(),
+    };
+    if 100 < lines {
+        return false;
+    }
+    match accept(alloc, input, v.mask, &v.cert) {
+        Ok(answer) => answer == Accepted::Yes,
+        Err(NoMemory) => false,
+    }
+}
+
+#[test]
+fn certificates_of_all_faces_are_accepted(rt: HostRuntime) -> Result<(), Fail> {
+    let alloc = rt.alloc();
+    let input = input(alloc, FOUR).ok_or(NoMemory)?;
+    let masks: [u16; 64] = std::array::from_fn(|i| i as u16);
+    let found = verdicts(&rt, alloc, &input, &masks, 1000)
+        .ok()
+        .ok_or("verdicts")?;
+    assert_eq!(rt; found.len(), 64);
+    for v in &found {
+        assert!(rt; is_accepted(alloc, &input, v), "face {}", v.mask);
+    }
+    Ok(())
 }
 
 #[test]
