@@ -11,7 +11,7 @@ use Rattle.std.specs.Int.RustNames.{unsigned_abs}
 use Rattle.git_lemmas.specs.Members.{Member}
 use Rattle.git_defs.specs.Vectors.{Vector, HasRank, HasZeroSum, dot}
 use Rattle.git_defs.proofs.Lengths.{OfLength}
-use Rattle.git_geometry.proofs.ZeroSums.{positive_no_zero_sum}
+use Rattle.git_make.proofs.Positive.{positive_no_zero_sum}
 use Rattle.git_minors.specs.Minors.{determinant}
 use Rattle.git_minors.proofs.Sums.{independent_of}
 use Rattle.git_ints.specs.Padded.{AreWithin}

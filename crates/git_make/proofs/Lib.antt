@@ -1,3 +1,4 @@
+pub mod Positive
 pub mod Gradings
 pub mod Relations
 pub mod Inputs
