@@ -45,7 +45,7 @@ fn signatures_are_ordered_by_their_numbers(rt: HostRuntime) -> Result<(), Fail> 
         assert_eq!(rt; a.cmp(&a), Ordering::Equal);
         assert!(rt; !a.same(&b));
         assert!(rt; a.same(&a.copied(rt.alloc())?));
-        assert!(rt; a.same(&Sig::of_words(Vec::from_slice(rt.alloc(), &first)?)));
+        assert!(rt; a.same(&Sig::of_words(a.words().to_vec(rt.alloc())?)));
     }
     let narrow = Sig::of(rt.alloc(), &[5])?;
     let wide = Sig::of(rt.alloc(), &[5, 0])?;
