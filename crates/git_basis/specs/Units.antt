@@ -1,5 +1,6 @@
 -- Cofactors of 1 over a start.
 use Rattle.std.specs.Prelude.{ℕ, ◌*◌, ◌%◌, ◌≤◌, ◌≡◌, List, length, map, All}
+use Rattle.git_basis.specs.declared.element.TheConstants.{RUN_DEGREE}
 use Rattle.git_algebra.specs.Polynomials.{Polynomial}
 use Rattle.git_algebra.specs.Operations.{one_polynomial, scaled, total_degree, IsInFace}
 use Rattle.git_ideals.specs.Ideals.{combination}
@@ -16,5 +17,5 @@ pub record IsUnitFrom (s : State) (cofactors : List Polynomial) : Type 0 where
 pub record IsUnitSum (start cofactors : List Polynomial) : Type 0 where
   pub one_each : length cofactors ≡ length start
   pub sum : combination cofactors start ≡ one_polynomial
-  pub small : All (λ h. total_degree h ≤ 1048576) cofactors
+  pub small : All (λ h. total_degree h ≤ RUN_DEGREE) cofactors
   pub variables : (mask : ℕ) → All (IsInFace mask) start → All (IsInFace mask) cofactors
