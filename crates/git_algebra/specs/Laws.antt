@@ -1,5 +1,6 @@
 -- What the crate's laws say of monomials and polynomials.
 use Rattle.std.specs.Prelude.{ℕ, ◌+◌, ◌-◌, ◌*◌, ◌%◌, ◌<◌, ◌≤◌, ◌≡◌, ◌↔◌, Some, if◌then◌else◌}
+use Rattle.git_field.specs.declared.TheConstants.{MODULUS}
 use Rattle.git_algebra.specs.Exponents.{Exponents, exponent, one, times, quotient, lcm, degree, Divides, in_face}
 use Rattle.git_algebra.specs.Order.{Precedes, rank}
 use Rattle.git_algebra.specs.Sums.{coefficient}
@@ -40,20 +41,20 @@ pub record RingLaws : Type 0 where
 -- a polynomial is fixed by its coefficients, and these are numbers modulo 32003
 pub record CoefficientLaws : Type 0 where
   pub fix : (p q : Polynomial) → ((m : Exponents) → coefficient p.terms m ≡ coefficient q.terms m) → p ≡ q
-  pub below : (p : Polynomial) (m : Exponents) → coefficient p.terms m < 32003
-  pub sum : (p q : Polynomial) (m : Exponents) → coefficient (plus p q).terms m ≡ (coefficient p.terms m + coefficient q.terms m) % 32003
-  pub difference : (p q : Polynomial) (m : Exponents) → coefficient (minus p q).terms m ≡ (coefficient p.terms m + (32003 - coefficient q.terms m)) % 32003
-  pub multiple : (c : ℕ) (p : Polynomial) (m : Exponents) → coefficient (scaled c p).terms m ≡ (c * coefficient p.terms m) % 32003
+  pub below : (p : Polynomial) (m : Exponents) → coefficient p.terms m < MODULUS
+  pub sum : (p q : Polynomial) (m : Exponents) → coefficient (plus p q).terms m ≡ (coefficient p.terms m + coefficient q.terms m) % MODULUS
+  pub difference : (p q : Polynomial) (m : Exponents) → coefficient (minus p q).terms m ≡ (coefficient p.terms m + (MODULUS - coefficient q.terms m)) % MODULUS
+  pub multiple : (c : ℕ) (p : Polynomial) (m : Exponents) → coefficient (scaled c p).terms m ≡ (c * coefficient p.terms m) % MODULUS
 
 -- a product by a term is the product of polynomials, and adds the term's exponents to each monomial
 pub record TermLaws : Type 0 where
   pub product : (m : Exponents) (c : ℕ) (p : Polynomial) → times_term m c p ≡ multiplied (term_of m c) p
-  pub shifted : (m : Exponents) (c : ℕ) (p : Polynomial) (a : Exponents) → coefficient (times_term m c p).terms (times m a) ≡ (c * coefficient p.terms a) % 32003
+  pub shifted : (m : Exponents) (c : ℕ) (p : Polynomial) (a : Exponents) → coefficient (times_term m c p).terms (times m a) ≡ (c * coefficient p.terms a) % MODULUS
   pub others : (m : Exponents) (c : ℕ) (p : Polynomial) (a : Exponents) → (Divides m a → ⊥) → coefficient (times_term m c p).terms a ≡ 0
 
 -- the lead of a product is the product of the leads, and the total degree is the lead's and adds
 pub record LeadLaws : Type 0 where
-  pub product : (p q : Polynomial) (s t : Exponents × ℕ) → lead_of p ≡ Some s → lead_of q ≡ Some t → lead_of (multiplied p q) ≡ Some (times s.0 t.0, (s.1 * t.1) % 32003)
+  pub product : (p q : Polynomial) (s t : Exponents × ℕ) → lead_of p ≡ Some s → lead_of q ≡ Some t → lead_of (multiplied p q) ≡ Some (times s.0 t.0, (s.1 * t.1) % MODULUS)
   pub degree_is_of_lead : (p : Polynomial) (s : Exponents × ℕ) → lead_of p ≡ Some s → total_degree p ≡ degree s.0
   pub degrees_add : (p q : Polynomial) (s t : Exponents × ℕ) → lead_of p ≡ Some s → lead_of q ≡ Some t → total_degree (multiplied p q) ≡ total_degree p + total_degree q
 

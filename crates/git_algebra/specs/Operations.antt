@@ -1,5 +1,6 @@
 -- The operations of polynomials, each as the form of a sum, and what is read of one.
-use Rattle.std.specs.Prelude.{ℕ, max, Option, Some, None, [], ◌∷◌, ◌++◌, filter, All, IsTrue}
+use Rattle.std.specs.Prelude.{ℕ, max, ◌-◌, Option, Some, None, [], ◌∷◌, ◌++◌, filter, All, IsTrue}
+use Rattle.git_field.specs.declared.TheConstants.{MODULUS}
 use Rattle.git_algebra.specs.Exponents.{Exponents, one, degree, in_face}
 use Rattle.git_algebra.specs.Sums.{Sum, shift, product, unit}
 use Rattle.git_algebra.specs.Polynomials.{Polynomial, normal}
@@ -21,7 +22,7 @@ plus p q = normal (p.terms ++ q.terms)
 
 -- p less q, -1 being 32002
 unfoldable pub minus : Polynomial → Polynomial → Polynomial
-minus p q = normal (p.terms ++ shift one 32002 q.terms)
+minus p q = normal (p.terms ++ shift one (MODULUS - 1) q.terms)
 
 -- a number times p
 unfoldable pub scaled : ℕ → Polynomial → Polynomial

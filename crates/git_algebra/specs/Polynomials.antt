@@ -8,6 +8,7 @@ use Rattle.std.specs.declared.cmp.Ordering.{Ordering}
 use Rattle.std.specs.declared.cmp.Ordering.TheVariants.{Less, Equal, Greater}
 use Rattle.std.specs.Ordering.{nat_cmp, MatchOrdering}
 use Rattle.std.specs.Cmp.{ranks}
+use Rattle.git_field.specs.declared.TheConstants.{MODULUS}
 use Rattle.git_algebra.specs.Exponents.{Exponents, exponents_code}
 use Rattle.git_algebra.specs.Order.{rank}
 use Rattle.git_algebra.specs.Sums.{Sum}
@@ -18,7 +19,7 @@ RanksBelow n (t ∷ p) = (rank t.0 < n) × RanksBelow n p
 
 abbrev pub Proper : Sum → Type 0
 Proper [] = Unit {0}
-Proper (t ∷ p) = (0 < t.1) × (t.1 < 32003) × RanksBelow (rank t.0) p × Proper p
+Proper (t ∷ p) = (0 < t.1) × (t.1 < MODULUS) × RanksBelow (rank t.0) p × Proper p
 
 -- a term in front, left out where its number is 0
 abbrev pub entry : Exponents → ℕ → Sum → Sum
@@ -28,11 +29,11 @@ entry m (suc n) p = (m, suc n) ∷ p
 -- a term added at its place
 abbrev pub put_by : Ordering → Exponents → ℕ → Exponents → ℕ → Sum → Sum → Sum
 put_by Less m c n d p put = (n, d) ∷ put
-put_by Equal m c n d p put = entry m ((c + d) % 32003) p
-put_by Greater m c n d p put = entry m (c % 32003) ((n, d) ∷ p)
+put_by Equal m c n d p put = entry m ((c + d) % MODULUS) p
+put_by Greater m c n d p put = entry m (c % MODULUS) ((n, d) ∷ p)
 
 abbrev pub put : Exponents → ℕ → Sum → Sum
-put m c [] = entry m (c % 32003) []
+put m c [] = entry m (c % MODULUS) []
 put m c (t ∷ p) = put_by (nat_cmp (rank m) (rank t.0)) m c t.0 t.1 p (put m c p)
 
 abbrev pub normal_list : Sum → Sum
@@ -48,26 +49,26 @@ ranks_more n k [] h u = tt
 ranks_more n k (t ∷ p) h u = (omega (arith, u.0), ranks_more n k p h u.1)
 
 ranks-put : (n : ℕ) (m : Exponents) (c : ℕ) (p : Sum) → rank m < n → RanksBelow n p → RanksBelow n (put m c p)
-ranks-put n m c [] h u = ranks-entry n m (c % 32003) [] h tt
+ranks-put n m c [] h u = ranks-entry n m (c % MODULUS) [] h tt
 ranks-put n m c (t ∷ p) h u = by (nat_cmp (rank m) (rank t.0)) (ranks-put n m c p h u.1)
   where
     by : (r : Ordering) → RanksBelow n (put m c p) → RanksBelow n (put_by r m c t.0 t.1 p (put m c p))
     by Less ih = (u.0, ih)
-    by Equal ih = ranks-entry n m ((c + t.1) % 32003) p h u.1
-    by Greater ih = ranks-entry n m (c % 32003) ((t.0, t.1) ∷ p) h u
+    by Equal ih = ranks-entry n m ((c + t.1) % MODULUS) p h u.1
+    by Greater ih = ranks-entry n m (c % MODULUS) ((t.0, t.1) ∷ p) h u
 
-proper-entry : (m : Exponents) (c : ℕ) (p : Sum) → c < 32003 → RanksBelow (rank m) p → Proper p → Proper (entry m c p)
+proper-entry : (m : Exponents) (c : ℕ) (p : Sum) → c < MODULUS → RanksBelow (rank m) p → Proper p → Proper (entry m c p)
 proper-entry m zero p h u v = v
 proper-entry m (suc c) p h u v = (omega arith, h, u, v)
 
 pub proper-put : (m : Exponents) (c : ℕ) (p : Sum) → Proper p → Proper (put m c p)
-proper-put m c [] v = proper-entry m (c % 32003) [] (omega arith) tt tt
+proper-put m c [] v = proper-entry m (c % MODULUS) [] (omega arith) tt tt
 proper-put m c (t ∷ p) v = by (nat_cmp (rank m) (rank t.0)) (ranks (rank m) (rank t.0)) (proper-put m c p v.3)
   where
     by : (r : Ordering) → MatchOrdering r (rank m < rank t.0) (rank m ≡ rank t.0) (rank t.0 < rank m) → Proper (put m c p) → Proper (put_by r m c t.0 t.1 p (put m c p))
     by Less h ih = (v.0, v.1, ranks-put (rank t.0) m c p h v.2, ih)
-    by Equal h ih = proper-entry m ((c + t.1) % 32003) p (omega arith) (ranks_more _ _ p (omega arith) v.2) v.3
-    by Greater h ih = proper-entry m (c % 32003) ((t.0, t.1) ∷ p) (omega arith) (h, ranks_more _ _ p (omega arith) v.2) v
+    by Equal h ih = proper-entry m ((c + t.1) % MODULUS) p (omega arith) (ranks_more _ _ p (omega arith) v.2) v.3
+    by Greater h ih = proper-entry m (c % MODULUS) ((t.0, t.1) ∷ p) (omega arith) (h, ranks_more _ _ p (omega arith) v.2) v
 
 pub proper-normal_list : (p : Sum) → Proper (normal_list p)
 proper-normal_list [] = tt

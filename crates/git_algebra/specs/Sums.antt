@@ -1,5 +1,6 @@
 -- Sums of terms, a term being a monomial with a number: in any order, with repeats, the numbers of any size. Two sums are added by `++`.
 use Rattle.std.specs.Prelude.{ℕ, ◌+◌, ◌*◌, ◌%◌, ◌≡◌, List, [], ◌∷◌, ◌++◌, if◌then◌else◌, ◌==◌}
+use Rattle.git_field.specs.declared.TheConstants.{MODULUS}
 use Rattle.git_algebra.specs.Exponents.{Exponents, times, one}
 use Rattle.git_algebra.specs.Order.{rank}
 
@@ -35,7 +36,7 @@ coefficient p m = value (at m) p
 
 -- numbers that are the same modulo 32003
 pub record Mod (a b : ℕ) : Type 0 where
-  pub same : a % 32003 ≡ b % 32003
+  pub same : a % MODULUS ≡ b % MODULUS
 
 -- sums that give the same value modulo 32003, whatever each monomial counts for
 pub record Alike (p q : Sum) : Type 0 where

@@ -39,18 +39,3 @@ one_more_made start now next steps more t made k m e d =
       count = omega (arith, ap (λ (ts : List Step). length ts) d, length_one_more steps t, k.count);
       members = omega (arith, k.members, members_more now t, ap (λ (s : State). length s.members) e);
     }
-
-pub ends_from : (start now : State) (steps : List Step) (made limit : ℕ) → IsMadeSoFar start now steps made → made ≤ limit → IsEnded now → Ends start limit steps
-ends_from start now steps made limit k h e = record { is_run = k.is_run; within = omega (arith, k.count); ended = subst IsEnded k.now_is e }
-
-pub steps_from : (start now : State) (steps : List Step) (made limit : ℕ) → IsMadeSoFar start now steps made → made ≡ limit → (IsEnded now → ⊥) → StopsBySteps start limit steps
-steps_from start now steps made limit k h e = record { is_run = k.is_run; all = omega (arith, k.count); goes_on = λ w. e (subst IsEnded (sym k.now_is) w) }
-
-pub degree_from : (start now : State) (steps : List Step) (t : Step) (made limit : ℕ) → IsMadeSoFar start now steps made → made < limit → (IsEnded now → ⊥) → IsNext now t → IsOversized now t → StopsByDegree start limit steps t
-degree_from start now steps t made limit k h e n o = record {
-  is_run = k.is_run;
-  before = omega (arith, k.count);
-  goes_on = λ w. e (subst IsEnded (sym k.now_is) w);
-  next = subst (λ s. IsNext s t) k.now_is n;
-  oversized = subst (λ s. IsOversized s t) k.now_is o;
-}

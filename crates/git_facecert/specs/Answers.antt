@@ -13,6 +13,7 @@ use Rattle.git_facecert.specs.declared.certificate.Place.TheVariants.{Member, Ge
 use Rattle.git_facecert.specs.declared.certificate.Accepted.{Accepted}
 use Rattle.git_facecert.specs.declared.certificate.Accepted.TheVariants.{Yes, No}
 use Rattle.git_facecert.specs.Certificates.{IsCofactor, IsMember, IsAcceptedMonomial, IsAcceptedFree}
+use Rattle.git_facecert.specs.declared.certificate.TheConstants.{CERT_POWER}
 
 -- the first of the polynomials that lacks a property has the number n, counted from 1
 pub record FirstLacks (P : Polynomial → Type 0) (ps : List Polynomial) (n : ℕ) : Type 0 where
@@ -49,7 +50,7 @@ pub record FirstPairLacks (members : List Polynomial) (m n : ℕ) : Type 0 where
 
 -- the power is too large, or the sum of products is another polynomial
 abbrev pub SumFails : List Polynomial → ℕ → ℕ → List Polynomial → Type 0
-SumFails generators mask exponent cofactors = exponent ≤ 2 ^ 20 → combination cofactors (map (restricted mask) generators) ≡ monomial (power (face_monomial mask) exponent) → ⊥
+SumFails generators mask exponent cofactors = exponent ≤ CERT_POWER → combination cofactors (map (restricted mask) generators) ≡ monomial (power (face_monomial mask) exponent) → ⊥
 
 -- where a monomial certificate fails first
 abbrev pub MonomialFails : List Polynomial → ℕ → ℕ → List Polynomial → Place → Type 0

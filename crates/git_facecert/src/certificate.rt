@@ -8,6 +8,9 @@ pub const CERT_DEGREE: u32 = 33_554_432;
 /// The greatest power of a monomial certificate, 2^20.
 pub const CERT_POWER: u32 = 1_048_576;
 
+/// The most members of a free certificate in the text of certificates.
+pub const CERT_MEMBERS: usize = 65_536;
+
 /// What shows that a face is an a-face or none.
 #[derive(Drop, Debug)]
 pub enum FaceCert {

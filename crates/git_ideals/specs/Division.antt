@@ -2,6 +2,7 @@
 use Rattle.std.specs.Prelude.{ℕ, ◌*◌, ◌%◌, ◌<◌, ◌≡◌, ◌≢◌, ◌==◌, if◌then◌else◌, List, [], ◌∷◌, length, map, Some, All}
 use Rattle.std.specs.List.{range_with_len}
 use Rattle.std.proofs.Common.{get_or}
+use Rattle.git_field.specs.declared.TheConstants.{MODULUS}
 use Rattle.git_algebra.specs.Exponents.{Exponents, times, lcm, Divides}
 use Rattle.git_algebra.specs.Sums.{Sum}
 use Rattle.git_algebra.specs.Polynomials.{Polynomial, normal}
@@ -30,8 +31,8 @@ pub record TakesLead (basis : List Polynomial) (p : Polynomial) (s : Step) : Typ
   pub other : Exponents × ℕ
   pub is_other : lead_of (member basis s.place) ≡ Some other
   pub monomials : times s.factor other.0 ≡ lead.0
-  pub numbers : (s.number * other.1) % 32003 ≡ lead.1
-  pub small : s.number < 32003
+  pub numbers : (s.number * other.1) % MODULUS ≡ lead.1
+  pub small : s.number < MODULUS
   pub first : (k : ℕ) → k < s.place → LeadDivides (member basis k) lead.0 → ⊥
 
 -- what a step leaves of p

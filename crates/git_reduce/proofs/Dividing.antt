@@ -54,9 +54,6 @@ zero_reached basis f p h rest =
     let both = to_zero basis f (quotients_of (length basis) h.steps) p (record { steps = h.steps; reaches = h.reaches; quotients_are = refl; is_rest = rest }) in
     (λ d. ap lead_of (both.0 d) ∙ zero_has_no_lead, λ none. both.1 (no_lead p none))
 
-pub not_reached_yet : (basis : List Polynomial) (f p : Polynomial) → p ≡ f → IsReached basis f p
-not_reached_yet basis f p e = record { steps = []; reaches = sym e }
-
 pub none_as_bool : (basis : List Polynomial) (f p : Polynomial) (o : Option (Exponents × ℕ)) (b : Bool) → IsReached basis f p → IsRest basis p → o ≡ lead_of p → is_some o ≡ not b → (b ≡ true) ↔ DividesToZero basis f
 none_as_bool basis f p o b h rest e is =
     let both = zero_reached basis f p h rest in

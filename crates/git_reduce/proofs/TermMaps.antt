@@ -290,6 +290,3 @@ taken_whole es n p all a = same_from_alike (normal es) p (alike_trans (normal_al
 
 pub multiplied_whole : (es start : Sum) (n : ℕ) (p g : Polynomial) (m : Exponents) (c d : ℕ) → length g.terms ≤ n → Alike es (start ++ shift m d (take n g.terms)) → normal start ≡ p → d ≡ (32003 - c) % 32003 → c < 32003 → normal es ≡ minus p (times_term m c g)
 multiplied_whole es start n p g m c d all a e is small = minus_is es start p g m c d e is small (subst (λ (s : Sum). Alike es (start ++ shift m d s)) (take_all n g.terms all) a)
-
-pub multiplied_none : (start : Sum) (m : Exponents) (d : ℕ) (p : Sum) → Alike start (start ++ shift m d (take 0 p))
-multiplied_none start m d p = record { values = λ f. mod_is (omega (arith, value-append f start [])) }
