@@ -30,9 +30,6 @@ pub runs_on : (v : InputValue) (limit mask : ℕ) (made : List Step) → Ends (s
 runs_on v limit mask made e s (inl a) = ends_not_by_steps (start_at v mask) limit made a.1.0 e a.1.1
 runs_on v limit mask made e s (inr a) = ends_not_by_degree (start_at v mask) limit made a.1.0 a.1.1 e a.1.2
 
-mask_of : FaceVerdict → ℕ
-mask_of f = f.mask
-
 full_face : (v : InputValue) (masks : List ℕ) → AreFullFaces v.degrees.k v.degrees.columns masks → (m : ℕ) → Contains masks m → IsFullFace v m
 full_face v masks are m c = (are.each m).0 c
 

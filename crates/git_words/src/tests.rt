@@ -30,13 +30,7 @@ fn spell_none(rows: &[&[&str]]) -> bool {
 }
 
 #[test]
-fn fan_with_its_options(rt: HostRuntime) {
-    let all = Command::Fan {
-        workers: 8,
-        table: 65_536,
-        steps: 7,
-        certs: true,
-    };
+fn fan_with_workers(rt: HostRuntime) {
     let two = Command::Fan {
         workers: 2,
         table: 4096,
@@ -51,6 +45,20 @@ fn fan_with_its_options(rt: HostRuntime) {
             (&["fan", "--workers", "2"], two),
             (&["fan", "--workers", "000000002"], two),
             (&["fan", "--steps=20000000", "--workers=2"], two),
+        ])
+    );
+}
+
+#[test]
+fn fan_with_all_options(rt: HostRuntime) {
+    let all = Command::Fan {
+        workers: 8,
+        table: 65_536,
+        steps: 7,
+        certs: true,
+    };
+    assert!(rt;
+        spell(&[
             (
                 &[
                     "fan",
