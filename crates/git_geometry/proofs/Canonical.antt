@@ -13,28 +13,33 @@ use Rattle.git_geometry.proofs.Stages.{exact_generators}
 use Rattle.git_geometry.specs.Generators.{Generates, RayOf}
 use Rattle.git_geometry.specs.Stages.{Exact}
 use Rattle.git_geometry.specs.Zeros.{AreUndominated}
+use Rattle.git_lemmas.proofs.Members.{as_member, contained}
+use Rattle.git_geometry.proofs.Contained.{inside_at}
+use Rattle.std.specs.Prelude.{Contains}
 
 -- primitive vectors that generate a cone: the undominated ones are its extreme vectors
 pub undominated_exact : (k : ℕ) (A R S : List Vector) → Generates k A R → ((r : Vector) → Member r R → IsPrimitive r) → AreUndominated A R S
     → Exact k A S
-undominated_exact k A R S g primitive u = record { edges = edge; primitive = λ r m. primitive r (u.from r m); complete = complete } where
+undominated_exact k A R S g primitive u = record { edges = edge; primitive = λ r m. primitive r (as_member R (u.from r m)); complete = complete } where
   some : (r : Vector) → Member r R → r ≡ zero_vector k → ⊥
-  some r m = primitive_nonzero k r (g.inside r m).entries (primitive r m)
+  some r m = primitive_nonzero k r (inside_at g r m).entries (primitive r m)
 
-  edge : (r : Vector) → Member r S → IsEdge k (Cut k A) r
-  edge r m = edge_of_alone k A R r g (g.inside r (u.from r m)) (some r (u.from r m)) (λ s n d. on_own_ray (u.only r s m n d))
+  edge : (r : Vector) → Contains S r → IsEdge k (Cut k A) r
+  edge r m = edge_of_alone k A R r g (g.inside r (u.from r m)) (some r (as_member R (u.from r m)))
+      (λ s n d. on_own_ray (u.only r s m (contained R n) d))
 
   -- a generator on the ray of an edge is an edge, so what dominates it is on its ray
-  kept : (x r : Vector) → IsEdge k (Cut k A) x → Member r R → OnRay x r → Member r S
+  kept : (x r : Vector) → IsEdge k (Cut k A) x → Member r R → OnRay x r → Contains S r
   kept x r e m o =
-      let t = some_times k r x (g.inside r m).entries e.nonzero o in
-      let er = edge_on_ray k (Cut k A) (cut_closed k A) x r e (g.inside r m) (some r m) (on_ray_back r x o t) o.positive in
-      u.back r m (λ s n d. primitive_of_ray k r s (g.inside r m).entries (some s n) (primitive r m) (primitive s n)
-      (dominator_on_edge k A s r er (g.inside s n) d))
+      let t = some_times k r x (inside_at g r m).entries e.nonzero o in
+      let er = edge_on_ray k (Cut k A) (cut_closed k A) x r e (inside_at g r m) (some r m) (on_ray_back r x o t) o.positive in
+      u.back r (contained R m) (λ s n d.
+      let o = as_member R n in
+      primitive_of_ray k r s (inside_at g r m).entries (some s o) (primitive r m) (primitive s o) (dominator_on_edge k A s r er (g.inside s n) d))
 
   complete : (x : Vector) → IsEdge k (Cut k A) x → RayOf S x
-  complete x e = let o = ray_of_generator k (Cut k A) R x (cut_closed k A) g.inside e (g.all x e.member) in
-      record { one = o.one; member = kept x o.one e o.member o.on; on = o.on }
+  complete x e = let o = ray_of_generator k (Cut k A) R x (cut_closed k A) (inside_at g) e (g.all x e.member) in
+      record { one = o.one; member = kept x o.one e (as_member R o.member) o.on; on = o.on }
 
 -- generators of a cone: with the facets by double description, the rays by dropping
 pub rays_of_generators : (k : ℕ) (given facets rays : List Vector) → OfLength k given → ((v : Vector) → Member v given → IsPrimitive v)

@@ -1,5 +1,5 @@
 -- The extreme vectors among generators by dropping, as a computation.
-use Rattle.std.proofs.Common.{◌≡◌, ◌⊎◌, ◌∷◌, [], Bool, List, arith, false, inl, inr, refl, subst, suc, sym, true, zero}
+use Rattle.std.proofs.Common.{◌≡◌, ◌∷◌, [], Bool, List, arith, false, inl, inr, refl, subst, suc, sym, true, zero}
 use Rattle.std.proofs.Math.IntN.{◌-ℤ◌, negsuc, pos, ℤ}
 use Rattle.std.proofs.lemmas.Int.{ints}
 use Rattle.std.specs.Prelude.{if◌then◌else◌}
@@ -7,7 +7,7 @@ use Rattle.git_lemmas.specs.Members.{Member}
 use Rattle.git_defs.specs.Vectors.{Vector, dot}
 use Rattle.git_geometry.proofs.Identities.{head_same, tail_same}
 use Rattle.git_geometry.specs.Zeros.{AreUndominated, Dominates}
-use Rattle.git_lemmas.proofs.Options.{yes_or_no}
+use Rattle.git_lemmas.proofs.Members.{as_member, contained}
 
 abbrev is_zero : ℤ → Bool
 is_zero (pos zero) = true
@@ -64,10 +64,15 @@ dominates [] s r = true
 dominates (a ∷ A) s r = both (implies (is_zero (dot a r)) (is_zero (dot a s))) (dominates A s r)
 
 dominates_test : (A : List Vector) (s r : Vector) → IsTest (Dominates A s r) (dominates A s r)
-dominates_test [] s r = record { sound = λ e. record { zeros = λ a m z. absurd m }; complete = λ d. refl }
+dominates_test [] s r = record { sound = λ e. record { zeros = λ a m z. absurd (as_member [] m) }; complete = λ d. refl }
 dominates_test (a ∷ A) s r = test_of
-    (λ h. record { zeros = λ b m. elim m [ inl e ↦ subst (λ (c : Vector). dot c r ≡ pos 0 → dot c s ≡ pos 0) e h.0 | inr n ↦ h.1.zeros b n ] })
-    (λ d. (d.zeros a (inl refl), record { zeros = λ b m. d.zeros b (inr m) }))
+    (λ h. record {
+      zeros = λ b m. elim (as_member (a ∷ A) m) [
+        | inl e ↦ subst (λ (c : Vector). dot c r ≡ pos 0 → dot c s ≡ pos 0) e h.0
+        | inr n ↦ h.1.zeros b (contained A n)
+      ];
+    })
+    (λ d. (d.zeros a (contained (a ∷ A) (inl refl)), record { zeros = λ b m. d.zeros b (contained (a ∷ A) (inr (as_member A m))) }))
     (both_test (implies (is_zero (dot a r)) (is_zero (dot a s))) (dominates A s r)
     (implies_test (is_zero (dot a r)) (is_zero (dot a s)) (is_zero_test (dot a r)) (is_zero_test (dot a s))) (dominates_test A s r))
 
@@ -113,7 +118,9 @@ alone_listed A given (t ∷ list) r m f = by (is_alone A given t) refl (λ n. al
 
 pub alone_undominated : (A given : List Vector) → AreUndominated A given (alone_among A given given)
 alone_undominated A given = record {
-  from = λ r m. (alone_member A given given r m).0;
-  only = λ r s m n d. (alone_member A given given r m).1 s n d;
-  back = λ r m f. alone_listed A given given r m f;
-}
+  from = λ r m. contained given (alone_member A given given r (as_member alone m)).0;
+  only = λ r s m n d. (alone_member A given given r (as_member alone m)).1 s (as_member given n) d;
+  back = λ r m f. contained alone (alone_listed A given given r (as_member given m) (λ s n d. f s (contained given n) d));
+} where
+  alone : List Vector
+  alone = alone_among A given given

@@ -23,6 +23,8 @@ use Rattle.git_geometry.proofs.Rays.{on_own_ray, on_ray_of_cone}
 use Rattle.git_geometry.proofs.Squares.{vector_zero_or_not}
 use Rattle.git_geometry.specs.Generators.{Generates}
 use Rattle.git_geometry.specs.Zeros.{Dominates, Flat, ZeroOn}
+use Rattle.git_lemmas.proofs.Members.{as_member, contained}
+use Rattle.git_geometry.proofs.Contained.{inside_at, pick_member, pick_split, pick_back}
 
 -- ---- what is 0 wherever r is can be taken from a multiple of r
 enough : (n : ℕ) (s r : ℤ) → pos 0 ≤ℤ s → pos 0 ≤ℤ r → (r ≡ pos 0 → s ≡ pos 0) → up s ≤ n → s ≤ℤ (pos n *ℤ r)
@@ -62,7 +64,7 @@ pub record Shares (k : ℕ) (A : List Vector) (s r : Vector) : Type 0 where
 
 pub shares : (k : ℕ) (A : List Vector) (s r : Vector) → Cut k A s → Cut k A r → Dominates A s r → Shares k A s r
 shares k A s r cs cr d =
-    let b = bound A s r (side_at cs) (side_at cr) d.zeros in
+    let b = bound A s r (side_at cs) (side_at cr) (λ a m. d.zeros a (contained A m)) in
     let n = suc b.times in
     let same : length (scale (pos n) r) ≡ length (scale (negsuc 0) s) = length-scale (pos n) r ∙ cr.entries ∙ sym cs.entries
     ∙ sym (length-scale (negsuc 0) s) in
@@ -106,7 +108,7 @@ edge_of_alone k A R r g cr some only = record {
   in_ray : (y : Vector) → InCone k R y → Flat (ZeroOn r) A y → InCone k (r ∷ []) y
   in_ray y h = (closed_cone k (FaceIn k A (ZeroOn r) (InCone k (r ∷ []))) R y
       (face_closed k A (ZeroOn r) (InCone k (r ∷ [])) (cone_closed k (r ∷ []) have))
-      (λ s m. record { cut = g.inside s m; inside = λ f. back s (only s m (record { zeros = f })) }) h).inside
+      (λ s m. record { cut = inside_at g s m; inside = λ f. back s (only s m (record { zeros = f })) }) h).inside
 
 -- ---- tests
 pub zero_or_not : (z : ℤ) → (z ≡ pos 0) ⊎ (z ≡ pos 0 → ⊥)
@@ -115,17 +117,17 @@ zero_or_not (pos (suc n)) = inr (λ e. omega (arith, ints, e))
 zero_or_not (negsuc n) = inr (λ e. omega (arith, ints, e))
 
 pub dominates_or_not : (A : List Vector) (s r : Vector) → Dominates A s r ⊎ (Dominates A s r → ⊥)
-dominates_or_not [] s r = inl (record { zeros = λ a m e. absurd m })
+dominates_or_not [] s r = inl (record { zeros = λ a m e. absurd (as_member [] m) })
 dominates_or_not (b ∷ A) s r = elim (dominates_or_not A s r) [
-  | inr miss ↦ inr (λ d. miss (record { zeros = λ a m e. d.zeros a (inr m) e }))
+  | inr miss ↦ inr (λ d. miss (record { zeros = λ a m e. d.zeros a (contained (b ∷ A) (inr (as_member A m))) e }))
   | inl rest ↦ elim (zero_or_not (dot b s)) [
-    | inl none ↦ inl (record { zeros = λ a m e. elim m [ inl f ↦ ap (λ (c : Vector). dot c s) (sym f) ∙ none | inr n ↦ rest.zeros a n e ] })
+    | inl none ↦ inl (record { zeros = λ a m e. elim (as_member (b ∷ A) m) [ inl f ↦ ap (λ (c : Vector). dot c s) (sym f) ∙ none | inr n ↦ rest.zeros a (contained A n) e ] })
     | inr some ↦ elim (zero_or_not (dot b r)) [
-      | inl here ↦ inr (λ d. some (d.zeros b (inl refl) here))
+      | inl here ↦ inr (λ d. some (d.zeros b (contained (b ∷ A) (inl refl)) here))
       | inr not_here ↦ inl (record {
-        zeros = λ a m e. elim m [
+        zeros = λ a m e. elim (as_member (b ∷ A) m) [
           | inl f ↦ absurd (not_here (ap (λ (c : Vector). dot c r) f ∙ e))
-          | inr n ↦ rest.zeros a n e
+          | inr n ↦ rest.zeros a (contained A n) e
         ];
       })
     ]
@@ -246,7 +248,7 @@ module _ (k : ℕ) (A : List Vector) (pointed : IsPointed k (Cut k A)) where
         cuts = cut_closed k A
 
   only : (R : List Vector) (r : Vector) → Fails (Dominated A) r R → (s : Vector) → Member s R → Dominates A s r → OnRay s r
-  only R r f s m d = elim (f.pick.split s m) [
+  only R r f s m d = elim (pick_split f.pick s m) [
     | inl e ↦ on_own_ray (sym e)
     | inr n ↦ absurd (f.fails (record { by = s; member = n; dominates = d }))
   ]
@@ -259,31 +261,31 @@ module _ (k : ℕ) (A : List Vector) (pointed : IsPointed k (Cut k A)) where
   -- without one that another dominates
   fewer : (R : List Vector) → NonzeroGenerators R → (p : Chosen (Dominated A) R) → NonzeroGenerators p.others
   fewer R g p = record {
-    generates = record { inside = λ r m. within r (p.pick.back r m); all = all };
-    nonzero = λ r m. g.nonzero r (p.pick.back r m);
+    generates = record { inside = λ r m. within r (pick_back p.pick r (as_member p.others m)); all = all };
+    nonzero = λ r m. g.nonzero r (pick_back p.pick r m);
   } where
     within : (r : Vector) → Member r R → Cut k A r
-    within = g.generates.inside
+    within = inside_at g.generates
 
     have : OfLength k p.others
-    have = record { each = λ v m. (within v (p.pick.back v m)).entries }
+    have = record { each = λ v m. (within v (pick_back p.pick v m)).entries }
 
     one_in : Cut k A p.one
-    one_in = within p.one p.pick.member
+    one_in = within p.one (pick_member p.pick)
 
     have_both : OfLength k (p.one ∷ p.others)
     have_both = more_of_length k p.one p.others one_in.entries have
 
     all_both : (x : Vector) → Cut k A x → InCone k (p.one ∷ p.others) x
     all_both x c = closed_cone k (InCone k (p.one ∷ p.others)) R x (cone_closed k (p.one ∷ p.others) have_both)
-        (λ v m. cone_has k (p.one ∷ p.others) v have_both (p.pick.split v m)) (g.generates.all x c)
+        (λ v m. cone_has k (p.one ∷ p.others) v have_both (pick_split p.pick v m)) (g.generates.all x c)
 
     by_in : Member p.holds.by R
-    by_in = p.pick.back p.holds.by p.holds.member
+    by_in = pick_back p.pick p.holds.by p.holds.member
 
     one_of : InCone k p.others p.one
     one_of = without p.one p.holds.by p.others have_both
-        (λ x h. closed_cone k (Cut k A) p.others x (cut_closed k A) (λ v m. within v (p.pick.back v m)) h)
+        (λ x h. closed_cone k (Cut k A) p.others x (cut_closed k A) (λ v m. within v (pick_back p.pick v m)) h)
         one_in (within p.holds.by by_in) (cone_has k p.others p.holds.by have p.holds.member) (g.nonzero p.holds.by by_in)
         (shares k A p.holds.by p.one (within p.holds.by by_in) one_in p.holds.dominates) all_both
 
@@ -297,14 +299,14 @@ module _ (k : ℕ) (A : List Vector) (pointed : IsPointed k (Cut k A)) where
   edges_generate_by D closed edges zero (r ∷ R) size g x c = absurd (omega arith)
   edges_generate_by D closed edges (suc fuel) R size g x c = elim (choose (Dominated A) (dominated_or_not A) R) [
     | inr none ↦ closed_cone k D R x closed (λ r m. edges r
-        (edge_of_alone k A R r g.generates (g.generates.inside r m) (g.nonzero r m) (only R r (none r m)))) (g.generates.all x c)
+        (edge_of_alone k A R r g.generates (inside_at g.generates r m) (g.nonzero r m) (only R r (none r m)))) (g.generates.all x c)
     | inl p ↦ edges_generate_by D closed edges fuel p.others (let e = p.pick.size in omega arith) (fewer R g p) x c
   ]
 
   nonzero_generators : (m : Generators k A) → (n : Nonzero k m.list) → NonzeroGenerators n.list
-  nonzero_generators m n = record { generates = record { inside = λ r o. m.generates.inside r (n.back r o); all = all }; nonzero = n.some } where
+  nonzero_generators m n = record { generates = record { inside = λ r o. inside_at m.generates r (n.back r (as_member n.list o)); all = all }; nonzero = n.some } where
     have : OfLength k n.list
-    have = record { each = λ r o. (m.generates.inside r (n.back r o)).entries }
+    have = record { each = λ r o. (inside_at m.generates r (n.back r o)).entries }
 
     all : (x : Vector) → Cut k A x → InCone k n.list x
     all x c = closed_cone k (InCone k n.list) m.list x (cone_closed k n.list have)

@@ -27,6 +27,7 @@ use Rattle.git_geometry.specs.Generators.{Generates}
 use Rattle.git_geometry.specs.Instances.{InsideGeneratorChangesNoFacet, InsideGeneratorIsNoRay, QuadrantHasUnitFacets, SquareHasItsCornersAsRays, SquareHasItsSidesAsFacets, plane, plane_units, space, square, square_sides, units_and_inside}
 use Rattle.git_geometry.specs.Zeros.{AreUndominated}
 use Rattle.git_lemmas.proofs.Sorting.{two_ascend}
+use Rattle.git_lemmas.proofs.Members.{as_member}
 
 -- ---- tests that compute
 abbrev for_each : (Vector → Bool) → List Vector → Bool
@@ -121,9 +122,9 @@ lengths_of_test k vs e = record { each = λ v m. length_of_test k v (for_each_me
 
 known_generates : (k : ℕ) (vs ns : List Vector) → Known k vs ns → Generates k ns vs
 known_generates k vs ns known = record {
-  inside = λ v m. cut_of ((lengths_of_test k vs known.lengths).each v m) (λ n o. nonneg_of_test (dot n v)
-      (for_each_member (λ (w : Vector). is_nonneg (dot w v)) ns
-      (for_each_member (λ (u : Vector). for_each (λ (w : Vector). is_nonneg (dot w u)) ns) vs known.sides v m) n o));
+  inside = λ v m. let q = as_member vs m in
+      cut_of ((lengths_of_test k vs known.lengths).each v q) (λ n o. nonneg_of_test (dot n v) (for_each_member (λ (w : Vector). is_nonneg (dot w v)) ns
+      (for_each_member (λ (u : Vector). for_each (λ (w : Vector). is_nonneg (dot w u)) ns) vs known.sides v q) n o));
   all = known.all;
 }
 

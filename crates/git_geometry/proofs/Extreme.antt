@@ -14,27 +14,28 @@ use Rattle.git_geometry.proofs.Stages.{exact_generators}
 use Rattle.git_geometry.specs.Generators.{Generates}
 use Rattle.git_geometry.specs.Stages.{Exact, blend}
 use Rattle.git_geometry.specs.Zeros.{Adjacent, Dominates}
+use Rattle.git_geometry.proofs.Contained.{inside_at, edge_at, primitive_at}
 
 -- a generator is an edge exactly where each generator that has its zeros is on its ray
 pub edge_exactly : (k : ℕ) (A R : List Vector) (r : Vector) → Generates k A R → Member r R → (r ≡ zero_vector k → ⊥)
     → IsEdge k (Cut k A) r ↔ ((s : Vector) → Member s R → Dominates A s r → OnRay s r)
 edge_exactly k A R r g m some = (
-  λ e s n d. dominator_on_edge k A s r e (g.inside s n) d,
-  edge_of_alone k A R r g (g.inside r m) some,
+  λ e s n d. dominator_on_edge k A s r e (inside_at g s n) d,
+  edge_of_alone k A R r g (inside_at g r m) some,
 )
 
 pub extreme_exactly : (k : ℕ) (A R : List Vector) (r : Vector) → Generates k A R → ((s : Vector) → Member s R → IsPrimitive s) → Member r R
     → IsExtreme k (Cut k A) r ↔ ((s : Vector) → Member s R → Dominates A s r → s ≡ r)
 extreme_exactly k A R r g primitive m = (
-  λ e s n d. primitive_of_ray k r s (g.inside r m).entries (some s n) (primitive r m) (primitive s n)
-      (dominator_on_edge k A s r e.edge (g.inside s n) d),
+  λ e s n d. primitive_of_ray k r s (inside_at g r m).entries (some s n) (primitive r m) (primitive s n)
+      (dominator_on_edge k A s r e.edge (inside_at g s n) d),
   λ alone. record {
-    edge = edge_of_alone k A R r g (g.inside r m) (some r m) (λ s n d. on_own_ray (alone s n d));
+    edge = edge_of_alone k A R r g (inside_at g r m) (some r m) (λ s n d. on_own_ray (alone s n d));
     primitive = primitive r m;
   },
 ) where
   some : (s : Vector) → Member s R → s ≡ zero_vector k → ⊥
-  some s n = primitive_nonzero k s (g.inside s n).entries (primitive s n)
+  some s n = primitive_nonzero k s (inside_at g s n).entries (primitive s n)
 
 -- the blend of two extreme vectors on the two sides of b is an edge exactly where they are neighbours
 pub blend_exactly : (k : ℕ) (A R : List Vector) (b r s : Vector) → IsPointed k (Cut k A) → Exact k A R → Member r R → Member s R → pos 0 <ℤ dot b r
@@ -42,11 +43,11 @@ pub blend_exactly : (k : ℕ) (A R : List Vector) (b r s : Vector) → IsPointed
     → IsEdge k (Cut k (b ∷ A)) (blend b r s) ↔ Adjacent A R r s
 blend_exactly k A R b r s pointed exact m n above below = (
   λ edge. record {
-    only = λ t o f. edge_near k A pointed b r s (exact.edges r m) (exact.edges s n) above below edge t (exact.edges t o) f
-        (exact.primitive r m) (exact.primitive s n) (exact.primitive t o);
+    only = λ t o f. edge_near k A pointed b r s (edge_at exact r m) (edge_at exact s n) above below edge t (exact.edges t o) f
+        (primitive_at exact r m) (primitive_at exact s n) (exact.primitive t o);
   },
-  adjacent_edge k A R (exact_generators k A pointed R exact) pointed b r s (exact.edges r m).member (exact.edges s n).member
-      (exact.edges r m).nonzero above below,
+  adjacent_edge k A R (exact_generators k A pointed R exact) pointed b r s (edge_at exact r m).member (edge_at exact s n).member
+      (edge_at exact r m).nonzero above below,
 )
 
 -- ---- the same by index

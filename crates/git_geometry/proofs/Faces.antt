@@ -11,15 +11,18 @@ use Rattle.git_defs.proofs.Sums.{scale_none}
 use Rattle.git_defs.specs.Vectors.{Vector, dot, plus, scale}
 use Rattle.git_geometry.proofs.Cuts.{cut_closed, side_at}
 use Rattle.git_geometry.specs.Zeros.{Flat}
+use Rattle.git_lemmas.proofs.Members.{as_member}
 
 pub flat_left : (k : ℕ) (Z : Vector → Type 0) (A : List Vector) (x y : Vector) → Cut k A x → Cut k A y → Flat Z A (plus x y) → Flat Z A x
 flat_left k Z A x y h j flat a m z =
-    let e = dot-plus a x y (h.entries ∙ sym j.entries) in let f = flat a m z in let u = side_at h a m in let v = side_at j a m in
+    let e = dot-plus a x y (h.entries ∙ sym j.entries) in let f = flat a m z in let n = as_member A m in
+    let u = side_at h a n in let v = side_at j a n in
     omega (arith, ints, e)
 
 pub flat_right : (k : ℕ) (Z : Vector → Type 0) (A : List Vector) (x y : Vector) → Cut k A x → Cut k A y → Flat Z A (plus x y) → Flat Z A y
 flat_right k Z A x y h j flat a m z =
-    let e = dot-plus a x y (h.entries ∙ sym j.entries) in let f = flat a m z in let u = side_at h a m in let v = side_at j a m in
+    let e = dot-plus a x y (h.entries ∙ sym j.entries) in let f = flat a m z in let n = as_member A m in
+    let u = side_at h a n in let v = side_at j a n in
     omega (arith, ints, e)
 
 pub flat_scale : (Z : Vector → Type 0) (A : List Vector) (c : ℤ) (x : Vector) → Flat Z A x → Flat Z A (scale c x)

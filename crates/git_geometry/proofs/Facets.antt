@@ -26,8 +26,8 @@ use Rattle.git_geometry.specs.Zeros.{AreUndominated}
 -- ---- lists of extreme vectors are exact
 pub exact_of_extreme : (k : ℕ) (A rays : List Vector) → SameSet (Contains rays) (IsExtreme k (Cut k A)) → Exact k A rays
 exact_of_extreme k A rays each = record { edges = λ x m. (extreme x m).edge; primitive = λ x m. (extreme x m).primitive; complete = complete } where
-  extreme : (x : Vector) → Member x rays → IsExtreme k (Cut k A) x
-  extreme x m = (each x).0 (member_contains x rays m)
+  extreme : (x : Vector) → Contains rays x → IsExtreme k (Cut k A) x
+  extreme x m = (each x).0 m
 
   closed : IsClosed k (Cut k A)
   closed = cut_closed k A
@@ -45,7 +45,7 @@ exact_of_extreme k A rays each = record { edges = λ x m. (extreme x m).edge; pr
         let listed = (each w).1 (record { edge = edge_on_ray k (Cut k A) closed x w edge inside some o (omega arith); primitive = p.primitive }) in
         record {
           one = w;
-          member = contains_member w rays listed;
+          member = listed;
           on = record { multiple = 1; times = p.times; positive = omega arith; same = scale-one x ∙ p.is };
         }
 

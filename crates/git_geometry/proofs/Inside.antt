@@ -8,7 +8,7 @@ use Rattle.std.specs.Prelude.{◌<ℤ◌, ◌≤ℤ◌}
 use Rattle.git_defs.proofs.Closed.{closed_cone, positive_or_zero}
 use Rattle.git_defs.proofs.Linear.{dot-comm, dot-plus, dot-scale, dot-zero, length-plus, length-scale, length-zero}
 use Rattle.git_lemmas.specs.Members.{Member}
-use Rattle.git_lemmas.proofs.Members.{all_member, member_all}
+use Rattle.git_lemmas.proofs.Members.{all_member, member_all, contained}
 use Rattle.git_defs.proofs.Lengths.{OfLength, all_of_length, first_of_length, rest_of_length}
 use Rattle.git_defs.specs.Cones.{Cut}
 use Rattle.git_defs.specs.Vectors.{HasRank, Vector, dot, plus, scale, units, vector_sum, zero_vector}
@@ -25,6 +25,7 @@ use Rattle.git_geometry.proofs.Squares.{zero_or_positive}
 use Rattle.git_geometry.proofs.Units.{dots_units, units_of_length}
 use Rattle.git_geometry.specs.Generators.{CommonZero, Generates}
 use Rattle.git_geometry.specs.Germs.{EndsWithUnits, HasInside, Holds, sign_at}
+use Rattle.git_geometry.proofs.Contained.{inside_at}
 
 pub germ_of_length : (k : ℕ) (germ : List Vector) → EndsWithUnits k germ → OfLength k germ
 germ_of_length k germ ends = subst (OfLength k) (sym ends.is) (record {
@@ -152,7 +153,7 @@ inside_rank k normals R g inside = elim (rank_or_zero k R (generators_of_length 
   -- what is 0 on the generators is 0 on the cone
   level : (z : CommonZero k R) (x : Vector) → Cut k normals x → dot z.vector x ≡ pos 0
   level z x c = (closed_cone k (LevelAt k z.vector) R x (level_closed k z.vector)
-      (λ r m. record { entries = (g.inside r m).entries; level = dot-comm z.vector r ∙ z.level r m }) (g.all x c)).level
+      (λ r m. record { entries = (inside_at g r m).entries; level = dot-comm z.vector r ∙ z.level r (contained R m) }) (g.all x c)).level
 
   -- so on m p + z and on p, hence on z
   none : (z : CommonZero k R) → z.vector ≡ zero_vector k
@@ -180,7 +181,7 @@ rank_inside k normals R have some g rank =
       point = vector_sum k R;
       entries = length-vector_sum k R R_have;
       off = member_all (λ (n : Vector). pos 0 <ℤ dot n (vector_sum k R)) normals
-          (inside_of_sum k R normals R_have rank have some (λ n v m o. side_at (g.inside v o) n m));
+          (inside_of_sum k R normals R_have rank have some (λ n v m o. side_at (inside_at g v o) n m));
     }
 
 pub inside_where : (k : ℕ) (normals R : List Vector) → OfLength k normals → ((n : Vector) → Member n normals → n ≢ zero_vector k)

@@ -1,3 +1,4 @@
+pub mod Contained
 pub mod Blends
 pub mod Canonical
 pub mod Cuts

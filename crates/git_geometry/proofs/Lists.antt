@@ -3,6 +3,7 @@ use Rattle.std.proofs.Common.{◌≡◌, ◌⊎◌, ◌∷◌, ◌++◌, [], Lis
 use Rattle.git_lemmas.specs.Members.{Member}
 use Rattle.git_defs.specs.Vectors.{Vector}
 use Rattle.git_geometry.specs.Elimination.{IsPick}
+use Rattle.git_geometry.proofs.Contained.{pick_by, pick_member, pick_split, pick_back}
 
 pub member_left : (x : Vector) (us vs : List Vector) → Member x us → Member x (us ++ vs)
 member_left x [] vs m = absurd m
@@ -52,15 +53,12 @@ pairs_member f (q ∷ R) S r s (inl e) n = member_left (f r s) (map (f q) S) (pa
 pairs_member f (q ∷ R) S r s (inr m) n = member_right (f r s) (map (f q) S) (pairs f R S) (pairs_member f R S r s m n)
 
 pub pick_first : (v : Vector) (vs : List Vector) → IsPick v vs (v ∷ vs)
-pick_first v vs = record { member = inl refl; split = λ x m. m; back = λ x m. inr m; size = refl }
+pick_first v vs = pick_by v vs (v ∷ vs) (inl refl) (λ x m. m) (λ x m. inr m) refl
 
 pub pick_later : (v r : Vector) (others vs : List Vector) → IsPick r others vs → IsPick r (v ∷ others) (v ∷ vs)
-pick_later v r others vs p = record {
-  member = inr p.member;
-  split = λ x m. elim m [ inl e ↦ inr (inl e) | inr n ↦ elim (p.split x n) [ inl e ↦ inl e | inr o ↦ inr (inr o) ] ];
-  back = λ x m. elim m [ inl e ↦ inl e | inr n ↦ inr (p.back x n) ];
-  size = ap suc p.size;
-}
+pick_later v r others vs p = pick_by r (v ∷ others) (v ∷ vs) (inr (pick_member p))
+    (λ x m. elim m [ inl e ↦ inr (inl e) | inr n ↦ elim (pick_split p x n) [ inl e ↦ inl e | inr o ↦ inr (inr o) ] ])
+    (λ x m. elim m [ inl e ↦ inl e | inr n ↦ inr (pick_back p x n) ]) (ap suc p.size)
 
 pub pick_of : (u : Vector) (vs : List Vector) → Member u vs → (others : List Vector) × IsPick u others vs
 pick_of u [] m = absurd m

@@ -19,6 +19,8 @@ use Rattle.git_geometry.proofs.Units.{units_of_length, units_span}
 use Rattle.git_geometry.specs.Elimination.{signed}
 use Rattle.git_geometry.specs.Generators.{Generates, IsCutOut, IsGenerated}
 use Rattle.git_geometry.specs.Stages.{blend}
+use Rattle.git_lemmas.proofs.Members.{as_member}
+use Rattle.git_geometry.proofs.Contained.{inside_at}
 
 -- ---- one inequality more
 abbrev kept_by : (k : ℕ) (b r : Vector) → (pos 0 ≤ℤ dot b r) ⊎ (dot b r <ℤ pos 0) → Vector
@@ -58,15 +60,15 @@ abbrev makes : ℕ → Vector → Vector → Vector → Vector
 makes k b r s = made_by k b r s (sign_of (dot b s)) (sign_of (neg_ℤ (dot b r)))
 
 generates_more : (k : ℕ) (A R : List Vector) (b : Vector) → Generates k A R → Generates k (b ∷ A) (map (keeps k b) R ++ pairs (makes k b) R R)
-generates_more k A R b s = record { inside = inside; all = all } where
+generates_more k A R b s = record { inside = λ x m. inside x (as_member S m); all = all } where
   S : List Vector
   S = map (keeps k b) R ++ pairs (makes k b) R R
 
   inside : (x : Vector) → Member x S → Cut k (b ∷ A) x
   inside x m = elim (member_either x (map (keeps k b) R) (pairs (makes k b) R R) m) [
-    | inl l ↦ (let i = image_of (keeps k b) R x l in subst (Cut k (b ∷ A)) i.is (kept_inside k A b i.from (s.inside i.from i.member)
+    | inl l ↦ (let i = image_of (keeps k b) R x l in subst (Cut k (b ∷ A)) i.is (kept_inside k A b i.from (inside_at s i.from i.member)
         (sign_of (dot b i.from))))
-    | inr n ↦ pairs_all (Cut k (b ∷ A)) (makes k b) R R (λ r t mr mt. made_inside k A b r t (s.inside r mr) (s.inside t mt) (sign_of (dot b t))
+    | inr n ↦ pairs_all (Cut k (b ∷ A)) (makes k b) R R (λ r t mr mt. made_inside k A b r t (inside_at s r mr) (inside_at s t mt) (sign_of (dot b t))
         (sign_of (neg_ℤ (dot b r)))) x n
   ]
 
@@ -74,7 +76,7 @@ generates_more k A R b s = record { inside = inside; all = all } where
   have = record { each = λ x m. (inside x m).entries }
 
   all : (x : Vector) → Cut k (b ∷ A) x → InCone k S x
-  all x c = one_more k (InCone k S) (cone_closed k S have) b R (record { each = λ r m. (s.inside r m).entries })
+  all x c = one_more k (InCone k S) (cone_closed k S have) b R (record { each = λ r m. (inside_at s r m).entries })
       (λ r m up. cone_has k S r have (member_left r (map (keeps k b) R) (pairs (makes k b) R R)
       (subst (λ (u : Vector). Member u (map (keeps k b) R)) (kept_is k b r up (sign_of (dot b r))) (map_member (keeps k b) R r m))))
       (λ r t m n above below. cone_has k S (blend b r t) have (member_right (blend b r t) (map (keeps k b) R) (pairs (makes k b) R R)
@@ -88,20 +90,20 @@ pub record Generators (k : ℕ) (A : List Vector) : Type 0 where
   pub generates : Generates k A list
 
 pub generators_of_length : (k : ℕ) (A R : List Vector) → Generates k A R → OfLength k R
-generators_of_length k A R g = record { each = λ r m. (g.inside r m).entries }
+generators_of_length k A R g = record { each = λ r m. (inside_at g r m).entries }
 
 -- the cone and the list as equal sets, both ways
 pub generators_same : (k : ℕ) (A R : List Vector) → Generates k A R → SameSet (Cut k A) (InCone k R)
-generators_same k A R g x = (g.all x, closed_cone k (Cut k A) R x (cut_closed k A) g.inside)
+generators_same k A R g x = (g.all x, closed_cone k (Cut k A) R x (cut_closed k A) (inside_at g))
 
 pub generates_of_same : (k : ℕ) (A R : List Vector) → OfLength k R → SameSet (Cut k A) (InCone k R) → Generates k A R
-generates_of_same k A R have same = record { inside = λ r m. (same r).1 (cone_has k R r have m); all = λ x c. (same x).0 c }
+generates_of_same k A R have same = record { inside = λ r m. (same r).1 (cone_has k R r have (as_member R m)); all = λ x c. (same x).0 c }
 
 pub minkowski : (k : ℕ) (A : List Vector) → Generators k A
 minkowski k [] = record {
   list = signed (units k);
   generates = record {
-    inside = λ r m. cut_of ((signed_of_length k (units k) (units_of_length k)).each r m) (λ a n. absurd n);
+    inside = λ r m. cut_of ((signed_of_length k (units k) (units_of_length k)).each r (as_member (signed (units k)) m)) (λ a n. absurd n);
     all = λ x c. units_span k x c.entries;
   };
 }
@@ -131,7 +133,8 @@ both_ways k vs ns have ns_of_length all x c = elim (farkas k vs x have c.entries
 -- generators of the normals of a cone have the cone's generators as the generators of their normals
 pub generates_back : (k : ℕ) (vs ns : List Vector) → OfLength k vs → Generates k vs ns → Generates k ns vs
 generates_back k vs ns have g = record {
-  inside = λ v m. cut_of (have.each v m) (λ n o. subst (λ (z : ℤ). pos 0 ≤ℤ z) (dot-comm v n) (side_at (g.inside n o) v m));
+  inside = λ v m. let q = as_member vs m in
+      cut_of (have.each v q) (λ n o. subst (λ (z : ℤ). pos 0 ≤ℤ z) (dot-comm v n) (side_at (inside_at g n o) v q));
   all = both_ways k vs ns have (generators_of_length k vs ns g) g.all;
 }
 
@@ -139,7 +142,7 @@ generates_back k vs ns have g = record {
 pub normals_cut : (k : ℕ) (vs ns : List Vector) → OfLength k vs → Generates k vs ns → SameSet (InCone k vs) (Cut k ns)
 normals_cut k vs ns have g x =
     let back = generates_back k vs ns have g in
-    (closed_cone k (Cut k ns) vs x (cut_closed k ns) back.inside, back.all x)
+    (closed_cone k (Cut k ns) vs x (cut_closed k ns) (inside_at back), back.all x)
 
 pub weyl : (k : ℕ) (vs : List Vector) → OfLength k vs → IsCutOut k (InCone k vs)
 weyl k vs have = let m = minkowski k vs in record {

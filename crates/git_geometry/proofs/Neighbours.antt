@@ -22,6 +22,8 @@ use Rattle.git_geometry.proofs.Rays.{on_ray_unscale, primitive_of_ray, some_time
 use Rattle.git_geometry.specs.Generators.{Generates}
 use Rattle.git_geometry.specs.Stages.{blend}
 use Rattle.git_geometry.specs.Zeros.{Adjacent, Flat, ZeroOnBoth}
+use Rattle.git_lemmas.proofs.Members.{as_member, contained}
+use Rattle.git_geometry.proofs.Contained.{inside_at}
 
 two_weights : (k : ℕ) (r s : Vector) (ws : List ℕ) → length r ≡ k → length s ≡ k → length ws ≡ 2
     → (e : ℕ) × (f : ℕ) × (combination k (map pos ws) (r ∷ s ∷ []) ≡ plus (scale (pos e) r) (scale (pos f) s))
@@ -63,8 +65,8 @@ module _ (k : ℕ) (A R : List Vector) (g : Generates k A R) (pointed : IsPointe
     in_pair y h = (closed_cone k (FaceIn k A (ZeroOnBoth r s) (InCone k (r ∷ s ∷ []))) R y
         (face_closed k A (ZeroOnBoth r s) (InCone k (r ∷ s ∷ [])) (cone_closed k (r ∷ s ∷ []) pair_of_length))
         (λ t m. record {
-          cut = g.inside t m;
-          inside = λ f. elim (adjacent.only t m f) [
+          cut = inside_at g t m;
+          inside = λ f. elim (adjacent.only t (contained R m) f) [
             | inl e ↦ cone_has k (r ∷ s ∷ []) t pair_of_length (inl e)
             | inr e ↦ cone_has k (r ∷ s ∷ []) t pair_of_length (inr (inl e))
           ];
@@ -130,7 +132,7 @@ module _ (k : ℕ) (A : List Vector) (pointed : IsPointed k (Cut k A)) (b r s : 
   -- what is 0 where the blend is lies on its ray
   on_blend_ray : (u : Vector) → Cut k (b ∷ A) u → dot b u ≡ pos 0 → ((a : Vector) → Member a A → ZeroOnBoth r s a → dot a u ≡ pos 0)
       → OnRay u (blend b r s)
-  on_blend_ray u cu level f = dominator_on_edge k (b ∷ A) u (blend b r s) edge cu (record { zeros = zero_at }) where
+  on_blend_ray u cu level f = dominator_on_edge k (b ∷ A) u (blend b r s) edge cu (record { zeros = λ a m. zero_at a (as_member (b ∷ A) m) }) where
     zero_at : (a : Vector) → Member a (b ∷ A) → dot a (blend b r s) ≡ pos 0 → dot a u ≡ pos 0
     zero_at a (inl e) z = subst (λ (c : Vector). dot c u ≡ pos 0) e level
     zero_at a (inr m) z = f a m (flat_blend k A b r s cr cs up_side low_side a m z)
@@ -145,7 +147,7 @@ module _ (k : ℕ) (A : List Vector) (pointed : IsPointed k (Cut k A)) (b r s : 
   near_level : dot b t ≡ pos 0 → Near
   near_level level =
       let cut : Cut k (b ∷ A) t = cut_with b (omega (arith, ints, level)) ct in
-      let o = on_blend_ray t cut level (λ a m f. flat a m f) in
+      let o = on_blend_ray t cut level (λ a m f. flat a (contained A m) f) in
       let n = some_times k (blend b r s) t (blend_cut k A b r s cr cs up_side low_side).entries et.nonzero o in
       record {
         first = inl (one_of_two k A t r s et er cs (pos o.multiple) (pos o.times *ℤ neg_ℤ (dot b s)) (pos 0) (pos o.times *ℤ dot b r)
@@ -159,7 +161,7 @@ module _ (k : ℕ) (A : List Vector) (pointed : IsPointed k (Cut k A)) (b r s : 
       let u = blend b t s in
       let cut = blend_cut k A b t s ct cs above low_side in
       let o = on_blend_ray u cut (blend_level k A b t s ct cs above low_side)
-      (λ a m f. blend_flat k A b t s ct cs above low_side a (flat a m f, f.1)) in
+      (λ a m f. blend_flat k A b t s ct cs above low_side a (flat a (contained A m) f, f.1)) in
       let n = some_times k (blend b r s) u (blend_cut k A b r s cr cs up_side low_side).entries
       (blend_some k A b t s ct cs above low_side pointed et.nonzero) o in
       record {
@@ -175,7 +177,7 @@ module _ (k : ℕ) (A : List Vector) (pointed : IsPointed k (Cut k A)) (b r s : 
       let u = blend b r t in
       let cut = blend_cut k A b r t cr ct up_side below in
       let o = on_blend_ray u cut (blend_level k A b r t cr ct up_side below)
-      (λ a m f. blend_flat k A b r t cr ct up_side below a (f.0, flat a m f)) in
+      (λ a m f. blend_flat k A b r t cr ct up_side below a (f.0, flat a (contained A m) f)) in
       let n = some_times k (blend b r s) u (blend_cut k A b r s cr cs up_side low_side).entries
       (blend_some k A b r t cr ct up_side below pointed er.nonzero) o in
       record {

@@ -1,13 +1,12 @@
 -- Contents of vectors, and primitive vectors: each vector but 0 is a multiple of one, and there is one on a ray.
 use Rattle.std.proofs.Common.{◌≡◌, ◌+◌, ◌<◌, ◌≤◌, ◌∙◌, ◌⊎◌, ◌∷◌, ◌*◌, ◌/◌, ◌%◌, [], ap, arith, inl, inr, length, map, refl, subst, suc, sym, zero, ℕ}
-use Rattle.std.proofs.Math.IntN.{◌+ℤ◌, ◌*ℤ◌, +ℤ_idr, neg_ℤ, negsuc, pos, pos-*ℤ-pos, ℤ}
+use Rattle.std.proofs.Math.IntN.{◌*ℤ◌, pos, pos-*ℤ-pos, ℤ}
 use Rattle.std.proofs.Math.Nat.{div-add-mod, dvd-mul_right, eq_of_mul-eq-mul_left, mod-lt, mod-zero}
-use Rattle.std.proofs.lemmas.Int.{ints, quot-rem, unsigned_abs-mul}
+use Rattle.std.proofs.lemmas.Int.{ints, unsigned_abs-mul}
 use Rattle.std.proofs.lemmas.Nat.Gcd.{IsGcd-from_mod, IsGcd-from_zero, dvd-zero, dvd_trans, le_of_dvd, mod-eq-zero_of_dvd}
 use Rattle.std.specs.Int.{◌∣◌, IsGcd}
-use Rattle.std.specs.Int.RustNames.{int_div, int_rem, unsigned_abs}
+use Rattle.std.specs.Int.RustNames.{int_div, unsigned_abs}
 use borrow.Author.Differences.{down, product_is, up}
-use Rattle.git_lemmas.proofs.Integers.{mul_comm}
 use Rattle.git_lemmas.specs.Members.{Member}
 use Rattle.git_defs.proofs.Sums.{scale-scale, scale-zero, scale_none}
 use Rattle.git_defs.specs.Vectors.{IsPrimitive, Vector, scale, zero_vector}

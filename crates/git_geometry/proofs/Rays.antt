@@ -16,6 +16,7 @@ use Rattle.git_geometry.proofs.Identities.{plus-assoc, plus-comm}
 use Rattle.git_geometry.proofs.Primitive.{primitive_once, vanish}
 use Rattle.git_geometry.proofs.Squares.{vector_zero_or_not}
 use Rattle.git_geometry.specs.Generators.{RayOf}
+use Rattle.git_lemmas.proofs.Members.{contained}
 
 -- ---- multiples of one vector
 one_weight : (k : ℕ) (x : Vector) (ws : List ℕ) → length x ≡ k → length ws ≡ 1 → (w : ℕ) × (combination k (map pos ws) (x ∷ []) ≡ scale (pos w) x)
@@ -171,7 +172,7 @@ ray_of_generator k C R x closed inside edge h = touches_end k C x (RayOf R x) cl
       each r m = elim (vector_zero_or_not k r (closed.entries r (inside r m))) [
         | inl none ↦ record { inside = inside r m; part = λ z t cz p e. inl none }
         | inr some ↦ touches_member k C x r (RayOf R x) closed edge (inside r m)
-            (λ o. record { one = r; member = m; on = on_ray_back x r o (some_times k x r (closed.entries x edge.member) some o) })
+            (λ o. record { one = r; member = contained R m; on = on_ray_back x r o (some_times k x r (closed.entries x edge.member) some o) })
       ]
 
 -- edges of equal sets

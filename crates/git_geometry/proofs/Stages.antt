@@ -18,9 +18,11 @@ use Rattle.git_geometry.proofs.Rays.{Touches, edge_along, edge_on_ray, on_ray_ba
 use Rattle.git_geometry.specs.Generators.{Generates, RayOf}
 use Rattle.git_geometry.specs.Stages.{Exact, IsBlended, IsNext, blend}
 use Rattle.git_geometry.specs.Zeros.{Adjacent}
+use Rattle.git_lemmas.proofs.Members.{as_member, contained}
+use Rattle.git_geometry.proofs.Contained.{edge_at, primitive_at}
 
 pub exact_of_length : (k : ℕ) (A R : List Vector) → Exact k A R → OfLength k R
-exact_of_length k A R exact = record { each = λ r m. (exact.edges r m).member.entries }
+exact_of_length k A R exact = record { each = λ r m. (edge_at exact r m).member.entries }
 
 module _ (k : ℕ) (A : List Vector) (pointed : IsPointed k (Cut k A)) (R : List Vector) (exact : Exact k A R) where
   -- a closed set with all of R has the cone
@@ -30,7 +32,7 @@ module _ (k : ℕ) (A : List Vector) (pointed : IsPointed k (Cut k A)) (R : List
     along x e =
         let r = exact.complete x e in let p = r.on.positive in
         closed.quotients (pos r.on.multiple) x (omega (arith, ints))
-        (subst D (sym r.on.same) (closed.multiples (pos r.on.times) r.one (omega (arith, ints)) (has r.one r.member)))
+        (subst D (sym r.on.same) (closed.multiples (pos r.on.times) r.one (omega (arith, ints)) (has r.one (as_member R r.member))))
 
   have : OfLength k R
   have = exact_of_length k A R exact
@@ -73,14 +75,14 @@ module _ (k : ℕ) (A : List Vector) (pointed : IsPointed k (Cut k A)) (R : List
 
           kept : (r : Vector) → Member r R → pos 0 ≤ℤ dot b r → Touches k (Cut k (b ∷ A)) x (RayOf S x) r
           kept r m up =
-              let e = edge_more r (exact.edges r m) up in
+              let e = edge_more r (edge_at exact r m) up in
               touches_member k (Cut k (b ∷ A)) x r (RayOf S x) closed edge e.member
-              (λ o. record { one = r; member = next.kept r m up; on = on_ray_back x r o (some_times k x r edge.member.entries e.nonzero o) })
+              (λ o. record { one = r; member = next.kept r (contained R m) up; on = on_ray_back x r o (some_times k x r edge.member.entries e.nonzero o) })
 
           made : (r s : Vector) → Member r R → Member s R → pos 0 <ℤ dot b r → dot b s <ℤ pos 0
               → Touches k (Cut k (b ∷ A)) x (RayOf S x) (blend b r s)
           made r s m n above below =
-              let er = exact.edges r m in let es = exact.edges s n in
+              let er = edge_at exact r m in let es = edge_at exact s n in
               let inside = blend_cut k A b r s er.member es.member above below in
               let some = blend_some k A b r s er.member es.member above below pointed er.nonzero in
               touches_member k (Cut k (b ∷ A)) x (blend b r s) (RayOf S x) closed edge inside
@@ -89,9 +91,9 @@ module _ (k : ℕ) (A : List Vector) (pointed : IsPointed k (Cut k A)) (R : List
               let eb = edge_on_ray k (Cut k (b ∷ A)) closed x (blend b r s) edge inside some o p in
               let adjacent : Adjacent A R r s = record {
                 only = λ t l f. edge_near k A pointed b r s er es above below eb t (exact.edges t l) f
-                    (exact.primitive r m) (exact.primitive s n) (exact.primitive t l);
+                    (primitive_at exact r m) (primitive_at exact s n) (exact.primitive t l);
               } in
-              let w = next.made r s m n above below adjacent in
+              let w = next.made r s (contained R m) (contained R n) above below adjacent in
               record {
                 one = w.vector;
                 member = w.member;
@@ -115,13 +117,13 @@ module _ (k : ℕ) (A : List Vector) (pointed : IsPointed k (Cut k A)) (R : List
 -- ---- the list of extreme vectors
 pub exact_each : (k : ℕ) (A R : List Vector) → Exact k A R → (x : Vector) → Member x R ↔ IsExtreme k (Cut k A) x
 exact_each k A R exact x = (
-  λ m. record { edge = exact.edges x m; primitive = exact.primitive x m },
+  λ m. record { edge = edge_at exact x m; primitive = primitive_at exact x m },
   λ h.
       let r = exact.complete x h.edge in
       let er = exact.edges r.one r.member in
       subst (λ (u : Vector). Member u R) (sym
       (primitive_of_ray k r.one x er.member.entries h.edge.nonzero
-      (exact.primitive r.one r.member) h.primitive r.on)) r.member,
+      (exact.primitive r.one r.member) h.primitive r.on)) (as_member R r.member),
 )
 
 -- a list is exact for all inequalities that cut out the same

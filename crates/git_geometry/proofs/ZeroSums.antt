@@ -1,6 +1,6 @@
 -- Natural numbers with which vectors sum to 0: from those of fewer vectors, and from a negative in their cone.
 use Rattle.std.proofs.Common.{◌≡◌, ℕ, zero, suc, List, [], ◌∷◌, length, refl, sym, ◌∙◌, ap, arith}
-use Rattle.std.proofs.Math.IntN.{ℤ, pos, negsuc, ◌+ℤ◌, ◌*ℤ◌}
+use Rattle.std.proofs.Math.IntN.{pos, negsuc, ◌+ℤ◌, ◌*ℤ◌}
 use Rattle.git_defs.specs.Vectors.{Vector, zero_vector, scale, plus, HasZeroSum}
 use Rattle.git_defs.specs.Cones.{InCone}
 use Rattle.git_lemmas.proofs.Integers.{diff, diff_add, diff_mul, diff_same}

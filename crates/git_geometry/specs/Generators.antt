@@ -2,7 +2,6 @@
 use Rattle.std.specs.Prelude.{◌≡◌, ◌≢◌, ◌<◌, ◌<ℤ◌, ◌≤ℤ◌, ℕ, List, pos, length, Contains}
 use Rattle.git_defs.specs.Vectors.{Vector, zero_vector, scale, dot, IsPrimitive, AllOfLength}
 use Rattle.git_defs.specs.Cones.{InCone, Cut, SameSet, OnRay}
-use Rattle.git_lemmas.specs.Members.{Member}
 
 -- a vector that is negative at x and at none of the generators
 pub record Separated (k : ℕ) (generators : List Vector) (x : Vector) : Type 0 where
@@ -13,7 +12,7 @@ pub record Separated (k : ℕ) (generators : List Vector) (x : Vector) : Type 0 
 
 -- the vectors lie in the cone that the inequalities cut out, and generate it
 pub record Generates (k : ℕ) (inequalities generators : List Vector) : Type 0 where
-  pub inside : (r : Vector) → Member r generators → Cut k inequalities r
+  pub inside : (r : Vector) → Contains generators r → Cut k inequalities r
   pub all : (x : Vector) → Cut k inequalities x → InCone k generators x
 
 -- C is the cone of finitely many vectors
@@ -31,7 +30,7 @@ pub record IsCutOut (k : ℕ) (C : Vector → Type 0) : Type 0 where
 -- a member of the list on whose ray x lies
 pub record RayOf (list : List Vector) (x : Vector) : Type 0 where
   pub one : Vector
-  pub member : Member one list
+  pub member : Contains list one
   pub on : OnRay x one
 
 -- a primitive vector of which v is a positive multiple
@@ -47,4 +46,4 @@ pub record CommonZero (k : ℕ) (list : List Vector) : Type 0 where
   pub vector : Vector
   pub entries : length vector ≡ k
   pub nonzero : vector ≢ zero_vector k
-  pub level : (a : Vector) → Member a list → dot a vector ≡ pos 0
+  pub level : (a : Vector) → Contains list a → dot a vector ≡ pos 0

@@ -17,6 +17,13 @@ at_member (suc k) x (v ∷ vs) h e = inr (at_member k x vs (omega arith) e)
 pub contains_member : {X : Type 0} (x : X) (vs : List X) → Contains vs x → Member x vs
 contains_member x vs c = at_member c.0 x vs c.1 c.2
 
+-- the same two, where the element is known from what is wanted
+pub contained : {X : Type 0} {x : X} (vs : List X) → Member x vs → Contains vs x
+contained {x = x} vs m = member_contains x vs m
+
+pub as_member : {X : Type 0} {x : X} (vs : List X) → Contains vs x → Member x vs
+as_member {x = x} vs c = contains_member x vs c
+
 -- what holds of all holds of a member
 pub all_member : {X : Type 0} (P : X → Type 0) (x : X) (vs : List X) → All P vs → Member x vs → P x
 all_member P x vs each m = let c = member_contains x vs m in subst P c.2 (each c.0 x c.1)
