@@ -3,12 +3,12 @@ use Rattle.std.proofs.Common.{◌≡◌, ◌⊎◌, ℕ, zero, suc, ◌+◌, ◌
 use Rattle.std.proofs.Math.IntN.{ℤ, pos, negsuc, ◌*ℤ◌}
 use Rattle.std.proofs.lemmas.Int.{ints}
 use Rattle.std.proofs.lemmas.List.{take_more}
-use Rattle.std.specs.Prelude.{◌<ℤ◌}
+use Rattle.std.specs.Prelude.{◌<ℤ◌, Contains}
 use Rattle.git_defs.specs.Vectors.{Vector, zero_vector, scale, dot, units, IsPrimitive, AreIndependent}
 use Rattle.git_defs.specs.Cones.{Cut, InCone, AreRays}
 use Rattle.git_lemmas.specs.Members.{Member}
 use Rattle.git_defs.proofs.Lengths.{OfLength}
-use Rattle.git_lemmas.proofs.Members.{member_contains, contains_member}
+use Rattle.git_lemmas.proofs.Members.{member_contains, contains_member, as_member, contained}
 use Rattle.git_defs.proofs.Closed.{closed_cone, cone_closed, cone_has}
 use Rattle.git_defs.proofs.Linear.{dot-scale, length-scale}
 use Rattle.git_defs.proofs.Sums.{scale-one, cone_zero, cone_scale}
@@ -44,9 +44,9 @@ parts_skip a given z h = record {
   list = h.list;
   parts = record {
     primitive = h.parts.primitive;
-    from = λ x m. let f = h.parts.from x m in (f.0, inr f.1, f.2);
-    each = λ x b m p l. elim m [
-      | inr n ↦ h.parts.each x b n p l
+    from = λ x m. let f = h.parts.from x m in (f.0, contained (a ∷ given) (inr (as_member given f.1)), f.2);
+    each = λ x b m p l. elim (as_member (a ∷ given) m) [
+      | inr n ↦ h.parts.each x b (contained given n) p l
       | inl e ↦ absurd (
           let len : length x ≡ length a = sym (length-scale (pos l.times) x) ∙ ap length (sym l.is ∙ sym e) in
           primitive_nonzero (length a) x len p (vanish (length a) l.times x l.positive (sym l.is ∙ sym e ∙ z)))
@@ -61,17 +61,20 @@ parts_more a given s h =
     record {
       list = q.vector ∷ h.list;
       parts = record {
-        primitive = λ x m. elim m [ inl e ↦ subst IsPrimitive e q.primitive | inr n ↦ h.parts.primitive x n ];
-        from = λ x m. elim m [ inl e ↦ (a, inl refl, subst (λ (u : Vector). IsAlong u a) e l) | inr n ↦ (let f = h.parts.from x n in (f.0, inr f.1, f.2)) ];
-        each = λ x b m p k. elim m [
-          | inr n ↦ inr (h.parts.each x b n p k)
-          | inl e ↦ inl (part_once_by q.times k.times q.vector x q.positive k.positive q.primitive p (sym q.is ∙ e ∙ k.is))
+        primitive = λ x m. elim (as_member (q.vector ∷ h.list) m) [ inl e ↦ subst IsPrimitive e q.primitive | inr n ↦ h.parts.primitive x (contained h.list n) ];
+        from = λ x m. elim (as_member (q.vector ∷ h.list) m) [
+          | inl e ↦ (a, contained (a ∷ given) (inl refl), subst (λ (u : Vector). IsAlong u a) e l)
+          | inr n ↦ (let f = h.parts.from x (contained h.list n) in (f.0, contained (a ∷ given) (inr (as_member given f.1)), f.2))
         ];
+        each = λ x b m p k. contained (q.vector ∷ h.list) (elim (as_member (a ∷ given) m) [
+          | inr n ↦ inr (as_member h.list (h.parts.each x b (contained given n) p k))
+          | inl e ↦ inl (part_once_by q.times k.times q.vector x q.positive k.positive q.primitive p (sym q.is ∙ e ∙ k.is))
+        ]);
       };
     }
 
 pub has_parts : (given : List Vector) → HasParts given
-has_parts [] = record { list = []; parts = record { primitive = λ x m. absurd m; from = λ x m. absurd m; each = λ x a m p l. absurd m } }
+has_parts [] = record { list = []; parts = record { primitive = λ x m. absurd (as_member [] m); from = λ x m. absurd (as_member [] m); each = λ x a m p l. absurd (as_member [] m) } }
 has_parts (a ∷ given) = elim (vector_zero_or_not (length a) a refl) [ inl z ↦ parts_skip a given z (has_parts given) | inr s ↦ parts_more a given s (has_parts given) ]
 
 pub record HasPrepared (given : List Vector) : Type 0 where
@@ -104,10 +107,10 @@ module _ (k : ℕ) (A G P : List Vector) (g : Generates k A G) (parts : ArePrimi
 
   have_parts : OfLength k P
   have_parts = record {
-    each = λ x m. let f = parts.from x m in sym (length-scale (pos (f.2).times) x) ∙ ap length (sym (f.2).is) ∙ have.each f.0 f.1;
+    each = λ x m. let f = parts.from x (contained P m) in sym (length-scale (pos (f.2).times) x) ∙ ap length (sym (f.2).is) ∙ have.each f.0 (as_member G f.1);
   }
 
-  inside : (r : Vector) → Member r P → Cut k A r
+  inside : (r : Vector) → Contains P r → Cut k A r
   inside r m = let f = parts.from r m in (cut_closed k A).quotients (pos (f.2).times) r (let p = (f.2).positive in omega (arith, ints, p))
       (subst (Cut k A) (f.2).is (g.inside f.0 f.1))
 
@@ -117,7 +120,7 @@ module _ (k : ℕ) (A G P : List Vector) (g : Generates k A G) (parts : ArePrimi
     | inr s ↦ (
         let q = primitive_part k r (have.each r m) s in
         let l : IsAlong q.vector r = record { times = q.times; positive = q.positive; is = q.is } in
-        subst (InCone k P) (sym q.is) (cone_scale k q.times P q.vector (cone_has k P q.vector have_parts (parts.each q.vector r m q.primitive l))))
+        subst (InCone k P) (sym q.is) (cone_scale k q.times P q.vector (cone_has k P q.vector have_parts (as_member P (parts.each q.vector r (contained G m) q.primitive l)))))
   ]
 
   pub primitive_generators : Generates k A P
@@ -129,7 +132,7 @@ rays_exist k A =
     let h = has_parts m.list in
     let P = h.list in
     let S = alone_among A P P in
-    let exact = undominated_exact k A P S (primitive_generators k A m.list P m.generates h.parts) h.parts.primitive (alone_undominated A P) in
+    let exact = undominated_exact k A P S (primitive_generators k A m.list P m.generates h.parts) (λ x n. h.parts.primitive x (contained P n)) (alone_undominated A P) in
     let l = listed S in
     record { list = l.list; rays = rays_of_exact k A l.list (exact_members k A S l.list l.back l.to exact) (pairs_of l.list l.ascending) }
 
@@ -199,7 +202,7 @@ step_exists b free rays f =
       step = record {
         place = f.place;
         in_range = f.in_range;
-        level = f.level;
+        level = λ u m. f.level u (as_member (take f.place free) m);
         pivot = p.pivot;
         above = p.above;
         is = p.is;

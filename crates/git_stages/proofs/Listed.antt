@@ -7,12 +7,13 @@ use Rattle.std.specs.declared.cmp.Ordering.{Ordering}
 use Rattle.std.specs.declared.cmp.Ordering.TheVariants.{Equal, Greater, Less}
 use Rattle.git_defs.specs.Vectors.{Vector, Precedes}
 use Rattle.git_lemmas.specs.Members.{Member}
-use Rattle.git_lemmas.proofs.Members.{member_all}
+use Rattle.git_lemmas.proofs.Members.{member_all, as_member, contained}
 use Rattle.std.proofs.lemmas.List.Kept.{AllPairs-cons}
 use Rattle.std.specs.Cmp.Rules.{signed_items}
 pub use Rattle.git_geometry.proofs.Sorted.{Ascending, vectors_total, irreflexive}
 use Rattle.git_geometry.specs.Stages.{Exact}
 use Rattle.git_lemmas.proofs.Order.{vectors_ties}
+use Rattle.git_geometry.proofs.Contained.{edge_at, primitive_at}
 
 -- ---- each list has a sorted one
 record Put (x : Vector) (vs : List Vector) : Type 0 where
@@ -90,7 +91,7 @@ pairs_of (v ∷ vs) a = AllPairs-cons Precedes v vs (member_all (Precedes v) vs 
 
 pub exact_members : (k : ℕ) (A vs ws : List Vector) → ((x : Vector) → Member x vs → Member x ws) → ((x : Vector) → Member x ws → Member x vs) → Exact k A vs → Exact k A ws
 exact_members k A vs ws to back e = record {
-  edges = λ x m. e.edges x (back x m);
-  primitive = λ x m. e.primitive x (back x m);
-  complete = λ x f. let r = e.complete x f in record { one = r.one; member = to r.one r.member; on = r.on };
+  edges = λ x m. edge_at e x (back x (as_member ws m));
+  primitive = λ x m. primitive_at e x (back x (as_member ws m));
+  complete = λ x f. let r = e.complete x f in record { one = r.one; member = contained ws (to r.one (as_member vs r.member)); on = r.on };
 }

@@ -4,18 +4,18 @@ use Rattle.std.proofs.Math.IntN.{ℤ, pos, ◌*ℤ◌}
 use Rattle.std.specs.Prelude.{All, ◌≤ℤ◌}
 use Rattle.std.specs.Int.RustNames.{unsigned_abs}
 use Rattle.std.proofs.lemmas.Int.{ints, unsigned_abs-mul}
-use Rattle.std.proofs.lemmas.List.Elements.{All-nil, All-cons}
+use Rattle.std.proofs.lemmas.List.Elements.{All-nil, All-cons, Contains-append_left}
 use Rattle.git_defs.specs.Vectors.{Vector, zero_vector, scale, dot, IsPrimitive, HasRank}
 use Rattle.git_defs.specs.Cones.{Cut, SameSet}
 use Rattle.git_lemmas.proofs.Integers.{nonneg_of_mul, mul_nonneg}
 use Rattle.git_lemmas.specs.Members.{Member}
 use Rattle.git_defs.proofs.Lengths.{OfLength}
-use Rattle.git_lemmas.proofs.Members.{all_member, member_all, contains_member, member_contains}
+use Rattle.git_lemmas.proofs.Members.{all_member, member_all, contains_member, member_contains, as_member, contained}
 use Rattle.git_defs.proofs.Linear.{dot-comm, dot-scale, dot-zero, length-scale}
 use Rattle.git_defs.proofs.Sums.{scale-zero}
 use Rattle.git_geometry.proofs.Cuts.{side_at, cut_of}
 use Rattle.git_geometry.proofs.Independence.{rank_pointed}
-use Rattle.git_geometry.proofs.Lists.{member_left, member_right, member_either}
+use Rattle.git_geometry.proofs.Lists.{member_right, member_either}
 use Rattle.git_geometry.proofs.Primitive.{vanish, primitive_nonzero, primitive_part}
 use Rattle.git_geometry.proofs.Ranks.{pointed_rank}
 use Rattle.git_geometry.proofs.Rays.{pointed_along, same_back}
@@ -33,9 +33,9 @@ pub gather_skip : (k : ℕ) (given out : List Vector) (i : ℕ) (d w : Vector) �
     → ArePrimitiveParts (take i given) out → ArePrimitiveParts (take (i + 1) given) out
 gather_skip k given out i d w h e part z g = record {
   primitive = g.primitive;
-  from = λ x m. let f = g.from x m in (f.0, front_grows given i d f.0 h f.1, f.2);
-  each = λ x a m p l. elim (member_more given i d a h m) [
-    | inl n ↦ g.each x a n p l
+  from = λ x m. let f = g.from x m in (f.0, contained (take (i + 1) given) (front_grows given i d f.0 h (as_member (take i given) f.1)), f.2);
+  each = λ x a m p l. elim (member_more given i d a h (as_member (take (i + 1) given) m)) [
+    | inl n ↦ g.each x a (contained (take i given) n) p l
     | inr f ↦ absurd (
         let same : get_or given i d ≡ zero_vector k = part.is ∙ ap (scale (pos part.divisor)) z ∙ scale-zero (pos part.divisor) k in
         let len : length x ≡ k = sym (length-scale (pos l.times) x) ∙ ap length (sym l.is ∙ sym f) ∙ e in
@@ -49,29 +49,30 @@ gather_more k given out i d w h e part some g =
     let a0 = get_or given i d in
     let pw : IsPrimitive w = part.primitive (λ z. some (vanish k part.divisor w part.positive (sym part.is ∙ z ∙ ap zero_vector e))) in
     record {
-      primitive = λ x m. elim (member_either x out (w ∷ []) m) [
-        | inl n ↦ g.primitive x n
+      primitive = λ x m. elim (member_either x out (w ∷ []) (as_member (out ++ w ∷ []) m)) [
+        | inl n ↦ g.primitive x (contained out n)
         | inr n ↦ elim n [ inl f ↦ subst IsPrimitive f pw | inr o ↦ absurd o ]
       ];
-      from = λ x m. elim (member_either x out (w ∷ []) m) [
-        | inl n ↦ (let f = g.from x n in (f.0, front_grows given i d f.0 h f.1, f.2))
+      from = λ x m. elim (member_either x out (w ∷ []) (as_member (out ++ w ∷ []) m)) [
+        | inl n ↦ (let f = g.from x (contained out n) in (f.0, contained (take (i + 1) given) (front_grows given i d f.0 h (as_member (take i given) f.1)), f.2))
         | inr n ↦ elim n [
-          | inl f ↦ (a0, last_in given i d h, record { times = part.divisor; positive = part.positive; is = part.is ∙ ap (scale (pos part.divisor)) f })
+          | inl f ↦ (a0, contained (take (i + 1) given) (last_in given i d h), record { times = part.divisor; positive = part.positive; is = part.is ∙ ap (scale (pos part.divisor)) f })
           | inr o ↦ absurd o
         ]
       ];
-      each = λ x a m p l. elim (member_more given i d a h m) [
-        | inl n ↦ member_left x out (w ∷ []) (g.each x a n p l)
-        | inr f ↦ member_right x out (w ∷ []) (inl (part_once_by part.divisor l.times w x part.positive l.positive pw p (sym part.is ∙ f ∙ l.is)))
+      each = λ x a m p l. elim (member_more given i d a h (as_member (take (i + 1) given) m)) [
+        | inl n ↦ Contains-append_left out (w ∷ []) x (g.each x a (contained (take i given) n) p l)
+        | inr f ↦ contained (out ++ w ∷ []) (member_right x out (w ∷ [])
+            (inl (part_once_by part.divisor l.times w x part.positive l.positive pw p (sym part.is ∙ f ∙ l.is))))
       ];
     }
 
 pub prepare : (given out list : List Vector) → ArePrimitiveParts given out → IsSortedSet out list → IsPrepared given list
 prepare given out list g t = record {
   sorted = t.sorted;
-  primitive = λ x c. g.primitive x (contains_member x out ((t.each x).0 c));
-  from = λ x c. let f = g.from x (contains_member x out ((t.each x).0 c)) in (f.0, member_contains f.0 given f.1, f.2);
-  each = λ x a c p l. (t.each x).1 (member_contains x out (g.each x a (contains_member a given c) p l));
+  primitive = λ x c. g.primitive x ((t.each x).0 c);
+  from = λ x c. g.from x ((t.each x).0 c);
+  each = λ x a c p l. (t.each x).1 (g.each x a c p l);
 }
 
 -- ---- what the prepared list keeps

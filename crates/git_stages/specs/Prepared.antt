@@ -1,7 +1,6 @@
 -- The prepared list of some inequalities: the primitive vectors along those that are not 0, each once, in order.
 use Rattle.std.specs.Prelude.{◌≡◌, ◌↔◌, ℕ, ◌<◌, List, pos, AllPairs, Contains}
 use Rattle.git_defs.specs.Vectors.{Vector, scale, IsPrimitive, Precedes}
-use Rattle.git_lemmas.specs.Members.{Member}
 
 -- a is a positive multiple of the vector x
 pub record IsAlong (x a : Vector) : Type 0 where
@@ -17,9 +16,9 @@ pub record IsPrepared (given list : List Vector) : Type 0 where
 
 -- the same, in any order, and perhaps with repeats
 pub record ArePrimitiveParts (given out : List Vector) : Type 0 where
-  pub primitive : (x : Vector) → Member x out → IsPrimitive x
-  pub from : (x : Vector) → Member x out → (a : Vector) × Member a given × IsAlong x a
-  pub each : (x a : Vector) → Member a given → IsPrimitive x → IsAlong x a → Member x out
+  pub primitive : (x : Vector) → Contains out x → IsPrimitive x
+  pub from : (x : Vector) → Contains out x → (a : Vector) × Contains given a × IsAlong x a
+  pub each : (x a : Vector) → Contains given a → IsPrimitive x → IsAlong x a → Contains out x
 
 -- the vectors of a list, each once, in order
 pub record IsSortedSet (old new : List Vector) : Type 0 where
