@@ -4,8 +4,6 @@ use Rattle.std.proofs.Math.IntN.{pos}
 use Rattle.std.specs.Prelude.{◌↔◌, ◌<ℤ◌, All, Contains}
 use Rattle.std.proofs.lemmas.List.Elements.{All-push, All-same, Contains-push, Contains-push_cases, Contains-append_left}
 use Rattle.git_defs.specs.Vectors.{Vector, dot}
-use Rattle.git_lemmas.specs.Members.{Member}
-use Rattle.git_lemmas.proofs.Members.{contains_member, member_contains}
 use Rattle.git_geometry.specs.Zeros.{Adjacent}
 use Rattle.git_geometry.specs.Stages.{blend}
 use Rattle.git_ints.specs.Content.{IsPrimitivePart}
@@ -17,13 +15,13 @@ use Rattle.git_dd.specs.Sides.{IsMarkedRay, HasAdded, IsMoved}
 use Rattle.git_dd.specs.declared.ray.Ray.{Ray}
 
 pub added_more : (upto all : List Vector) (b : Vector) (width : ℕ) (r : Vector) (below old out new : List Ray) (i : ℕ) (s : Ray) → i < length below → s ≡ get_or below i s
-    → Member r all → Member s.vector all → pos 0 <ℤ dot b r → dot b s.vector <ℤ pos 0 → Makes upto all b r (take i (vectors below)) (vectors old) (vectors out)
+    → Contains all r → Contains all s.vector → pos 0 <ℤ dot b r → dot b s.vector <ℤ pos 0 → Makes upto all b r (take i (vectors below)) (vectors old) (vectors out)
     → HasAdded upto all b width r s.vector out new → Makes upto all b r (take (i + 1) (vectors below)) (vectors old) (vectors new)
 added_more upto all b width r below old out new i s h is r_in s_in up low makes (inl a) =
     let e = vector_at below i s h is in
     let long = vectors_long below in
     subst (Makes upto all b r (take (i + 1) (vectors below)) (vectors old)) (sym (vectors_end out new a.ray a.is))
-    (makes_more upto all (vectors below) b r (a.ray).vector (vectors old) (vectors out) i s.vector (omega (arith, h, long)) r_in (subst (λ (u : Vector). Member u all) (sym e) s_in) up makes
+    (makes_more upto all (vectors below) b r (a.ray).vector (vectors old) (vectors out) i s.vector (omega (arith, h, long)) r_in (subst (Contains all) (sym e) s_in) up makes
     (subst (λ (u : Vector). dot b u <ℤ pos 0) (sym e) low) (subst (Adjacent upto all r) (sym e) a.adjacent) (subst (λ (u : Vector). IsPrimitivePart (blend b r u) (a.ray).vector) (sym e) a.part))
 added_more upto all b width r below old out new i s h is r_in s_in up low makes (inr n) =
     let e = vector_at below i s h is in
@@ -56,20 +54,20 @@ iff_through f g = (λ a. g.0 (f.0 a), λ c. f.1 (g.1 c))
 
 -- the vectors of what was moved
 pub moved_vectors : (made above level mid out : List Ray) → IsMoved above made mid → IsMoved level mid out → (v : Vector)
-    → Member v (vectors out) ↔ (Member v (vectors made) ⊎ (Member v (vectors above) ⊎ Member v (vectors level)))
+    → Contains (vectors out) v ↔ (Contains (vectors made) v ⊎ (Contains (vectors above) v ⊎ Contains (vectors level) v))
 moved_vectors made above level mid out p q v = (to, back) where
-  in_of : (xs : List Ray) (r : Ray) → Contains xs r → r.vector ≡ v → Member v (vectors xs)
-  in_of xs r c e = subst (λ (u : Vector). Member u (vectors xs)) e (vector_in xs r (contains_member r xs c))
+  in_of : (xs : List Ray) (r : Ray) → Contains xs r → r.vector ≡ v → Contains (vectors xs) v
+  in_of xs r c e = subst (Contains (vectors xs)) e (vector_in xs r c)
 
-  to : Member v (vectors out) → Member v (vectors made) ⊎ (Member v (vectors above) ⊎ Member v (vectors level))
+  to : Contains (vectors out) v → Contains (vectors made) v ⊎ (Contains (vectors above) v ⊎ Contains (vectors level) v)
   to m =
       let r = ray_in out v m in
-      elim ((q.each r.ray).0 (member_contains r.ray out r.member)) [
+      elim ((q.each r.ray).0 r.member) [
         | inl c ↦ elim ((p.each r.ray).0 c) [ inl d ↦ inl (in_of made r.ray d r.is) | inr d ↦ inr (inl (in_of above r.ray d r.is)) ]
         | inr c ↦ inr (inr (in_of level r.ray c r.is))
       ]
 
-  back : Member v (vectors made) ⊎ (Member v (vectors above) ⊎ Member v (vectors level)) → Member v (vectors out)
-  back (inl m) = let r = ray_in made v m in in_of out r.ray ((q.each r.ray).1 (inl ((p.each r.ray).1 (inl (member_contains r.ray made r.member))))) r.is
-  back (inr (inl m)) = let r = ray_in above v m in in_of out r.ray ((q.each r.ray).1 (inl ((p.each r.ray).1 (inr (member_contains r.ray above r.member))))) r.is
-  back (inr (inr m)) = let r = ray_in level v m in in_of out r.ray ((q.each r.ray).1 (inr (member_contains r.ray level r.member))) r.is
+  back : Contains (vectors made) v ⊎ (Contains (vectors above) v ⊎ Contains (vectors level) v) → Contains (vectors out) v
+  back (inl m) = let r = ray_in made v m in in_of out r.ray ((q.each r.ray).1 (inl ((p.each r.ray).1 (inl r.member)))) r.is
+  back (inr (inl m)) = let r = ray_in above v m in in_of out r.ray ((q.each r.ray).1 (inl ((p.each r.ray).1 (inr r.member)))) r.is
+  back (inr (inr m)) = let r = ray_in level v m in in_of out r.ray ((q.each r.ray).1 (inr r.member)) r.is

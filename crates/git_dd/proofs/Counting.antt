@@ -1,6 +1,6 @@
 -- The marks that two vectors share, counted.
 use Rattle.std.proofs.Common.{◌≡◌, ℕ, zero, suc, ◌+◌, ◌*◌, ◌/◌, ◌%◌, ◌^◌, ◌<◌, ◌≤◌, List, [], ◌∷◌, ◌++◌, length, get_or, drop, map, refl, sym, ◌∙◌, ap, subst, arith, inl, inr, length-append}
-use Rattle.std.specs.Prelude.{All}
+use Rattle.std.specs.Prelude.{All, Contains}
 use Rattle.std.proofs.lemmas.List.{length-map, drop_more}
 use Rattle.std.specs.Int.{bit_at}
 use Rattle.std.specs.Int.Count.{ones_in}
@@ -9,7 +9,7 @@ use Rattle.std.proofs.lemmas.Nat.Bits.{bit_at-suc, bit_at_lowest, bit_at_above}
 use Rattle.git_defs.specs.Vectors.{Vector, dot, zero_vector}
 use Rattle.git_defs.proofs.Linear.{length-zero}
 use Rattle.git_lemmas.specs.Members.{Member}
-use Rattle.git_lemmas.proofs.Members.{member_contains, member_all, all_member}
+use Rattle.git_lemmas.proofs.Members.{member_all, all_member, contained}
 use Rattle.git_geometry.specs.Zeros.{ZeroOnBoth}
 use Rattle.git_stages.specs.Short.{IsShort}
 use Rattle.git_stages.proofs.Fronts.{any_default}
@@ -148,9 +148,8 @@ module _ (k : ℕ) (A : List Vector) (width : ℕ) (r s : Vector) (wr ws : List 
     entries = member_all (λ (v : Vector). length v ≡ k) marked_zeros (map_long k A (numbers (both wr ws) 0) (λ v m. (all_member (IsShort k) v A short m).entries));
     all = all;
   } where
-    all : (a : Vector) → Member a A → ZeroOnBoth r s a → Member a marked_zeros
-    all a m z =
-        let c = member_contains a A m in
+    all : (a : Vector) → Contains A a → ZeroOnBoth r s a → Contains marked_zeros a
+    all a c z =
         let j = c.0 in
         let long : length ws ≡ length wr = ms.long ∙ sym mr.long in
         let here : get_or A j a ≡ a = c.2 in
@@ -158,5 +157,5 @@ module _ (k : ℕ) (A : List Vector) (width : ℕ) (r s : Vector) (wr ws : List 
         let in_s = (ms.each j).1 (c.1, ap (λ (u : Vector). dot u s) (any_default A j [] a c.1 ∙ here) ∙ z.1) in
         let mark = (both_each (both wr ws) wr ws (both_long wr ws long) (both_at wr ws long) j).1 (in_r, in_s) in
         let member = numbers_has (both wr ws) 0 (j / 64) (j % 64) mark (has_within (both wr ws) j mark) in
-        subst (λ (u : Vector). Member u marked_zeros) (any_default A j (zero_vector k) a c.1 ∙ here)
-        (map_has at (numbers (both wr ws) 0) j (subst (λ (n : ℕ). Member n (numbers (both wr ws) 0)) (omega arith) member))
+        subst (Contains marked_zeros) (any_default A j (zero_vector k) a c.1 ∙ here)
+        (contained marked_zeros (map_has at (numbers (both wr ws) 0) j (subst (λ (n : ℕ). Member n (numbers (both wr ws) 0)) (omega arith) member)))

@@ -1,12 +1,11 @@
 -- The second phase over the program's list of all inequalities.
 use Rattle.std.proofs.Common.{◌≡◌, ℕ, ◌+◌, ◌<◌, ◌≤◌, ◌^◌, List, [], ◌∷◌, ◌++◌, length, take, drop, sym, ◌∙◌, ap, subst, arith, inl, inr, length-append}
 use Rattle.std.proofs.lemmas.List.{take_all}
-use Rattle.std.proofs.lemmas.List.Elements.{All-append, All-same}
-use Rattle.std.specs.Prelude.{All}
+use Rattle.std.proofs.lemmas.List.Elements.{All-append, All-same, All-contains}
+use Rattle.std.specs.Prelude.{All, Contains}
 use Rattle.git_defs.specs.Vectors.{Vector, HasRank}
 use Rattle.git_defs.specs.Cones.{Cut, IsPointed}
-use Rattle.git_lemmas.specs.Members.{Member}
-use Rattle.git_lemmas.proofs.Members.{all_member, member_all}
+use Rattle.git_lemmas.proofs.Members.{member_all, contained}
 use Rattle.git_geometry.specs.Stages.{Exact}
 use Rattle.git_stages.proofs.Ranks.{rank_is, rank_bound, rank_full}
 use Rattle.git_stages.proofs.Shorts.{short_length}
@@ -17,7 +16,6 @@ use Rattle.git_stages.specs.Ranks.{IsRank}
 use Rattle.git_stages.specs.Short.{IsShort}
 use Rattle.git_stages.specs.Wide.{NeverWide, IsWideAt}
 use Rattle.git_dd.proofs.Finals.{split, pointed, exact, narrow, front, back, late_wide, never_wide, are_rays}
-use Rattle.git_dd.proofs.Lates.{tidied_to}
 use Rattle.git_dd.proofs.Nexts.{ray_in}
 use Rattle.git_dd.specs.Answers.{AreRaysOf, IsFaultOf}
 use Rattle.git_dd.specs.Converted.{IsConverted}
@@ -39,7 +37,7 @@ split_size k taken (b ∷ left) base rest (inr s) = let h = split_size k taken l
 pub rank_at_end : (k : ℕ) (given prepared base free rays rest : List Vector) → IsPrepared given prepared → All (IsShort k) given
     → Progress k prepared (length prepared) base free rays rest → IsRank k given (length base)
 rank_at_end k given prepared base free rays rest is_prepared short p = rank_is k given prepared base free rays (short_length k given short) (short_length k base p.base_short) is_prepared p.state p.from
-    (λ v m. p.spanned v (subst (Member v) (sym (take_all (length prepared) prepared (omega arith))) m))
+    (λ v m. p.spanned v (subst (λ (u : List Vector). Contains u v) (sym (take_all (length prepared) prepared (omega arith))) m))
 
 module _ (k : ℕ) (given prepared base free rays rest : List Vector) (is_prepared : IsPrepared given prepared) (short : All (IsShort k) given)
     (p : Progress k prepared (length prepared) base free rays rest) (full : length base ≡ k) (ordered : List Vector) (e : ordered ≡ base ++ rest) where
@@ -97,4 +95,4 @@ rank_k k given prepared base free rays rest is_prepared short p h = rank_bound k
 
 pub list_short : (k : ℕ) (A : List Vector) (width : ℕ) (rays : List Ray) (list : List Vector) → All (IsRay k A width) rays → IsSortedSet (vectors rays) list → All (IsShort k) list
 list_short k A width rays list all t = member_all (IsShort k) list (λ v m.
-    let q = ray_in rays v (tidied_to (vectors rays) list t v m) in subst (IsShort k) q.is (all_member (IsRay k A width) q.ray rays all q.member).short)
+    let q = ray_in rays v ((t.each v).0 (contained list m)) in subst (IsShort k) q.is (All-contains (IsRay k A width) rays q.ray all q.member).short)

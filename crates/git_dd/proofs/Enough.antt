@@ -2,7 +2,7 @@
 use Rattle.std.proofs.Common.{◌≡◌, ◌+◌, ◌*◌, ◌≤◌, ℕ, zero, suc, List, [], ◌∷◌, length, refl, sym, ◌∙◌, ap, subst, arith, inl, inr}
 use Rattle.std.proofs.Math.IntN.{ℤ, pos, negsuc, ◌+ℤ◌, ◌*ℤ◌, pos-*ℤ-pos}
 use Rattle.std.proofs.lemmas.Int.{ints}
-use Rattle.std.specs.Prelude.{◌≤ℤ◌}
+use Rattle.std.specs.Prelude.{◌≤ℤ◌, Contains}
 use Rattle.std.specs.Int.RustNames.{unsigned_abs}
 use Rattle.git_defs.specs.Vectors.{Vector, dot, plus, scale}
 use Rattle.git_defs.specs.Cones.{Cut, IsPointed}
@@ -26,6 +26,8 @@ use Rattle.git_geometry.specs.Generators.{CommonZero}
 use Rattle.git_geometry.specs.Stages.{Exact}
 use Rattle.git_geometry.specs.Zeros.{Flat, Adjacent, ZeroOnBoth}
 use Rattle.git_dd.specs.Sides.{HasZeros}
+use Rattle.git_lemmas.proofs.Members.{as_member, contained}
+use Rattle.git_geometry.proofs.Contained.{edge_at}
 
 -- ---- a multiple of y outweighs x where x is 0 wherever y is
 outweighs : (n : ℕ) (s r : ℤ) → pos 0 ≤ℤ r → (r ≡ pos 0 → s ≡ pos 0) → unsigned_abs s ≤ n → pos 0 ≤ℤ ((pos n *ℤ r) +ℤ s)
@@ -53,7 +55,7 @@ lift (b ∷ A) y x side level =
       ];
     }
 
-module _ (k : ℕ) (A R : List Vector) (pointed : IsPointed k (Cut k A)) (exact : Exact k A R) (r s : Vector) (r_in : Member r R) (s_in : Member s R)
+module _ (k : ℕ) (A R : List Vector) (pointed : IsPointed k (Cut k A)) (exact : Exact k A R) (r s : Vector) (r_in : Contains R r) (s_in : Contains R s)
     (adjacent : Adjacent A R r s) (zeros : List Vector) (has : HasZeros k A r s zeros) where
   cr : Cut k A r
   cr = (exact.edges r r_in).member
@@ -76,10 +78,13 @@ module _ (k : ℕ) (A R : List Vector) (pointed : IsPointed k (Cut k A)) (exact 
     x : Vector
     x = c.vector
 
+    zero_in : (a : Vector) → Contains zeros a → Contains (r ∷ s ∷ zeros) a
+    zero_in a m = contained (r ∷ s ∷ zeros) (inr (inr (as_member zeros m)))
+
     up : Lift A sum x
     up = lift A sum x (λ a m. let e = sum_cut a m in let u = side_at cr a m in let v = side_at cs a m in omega (arith, ints, e, u, v))
-        (λ a m z. c.level a (inr (inr (has.all a m
-        (let e = sum_cut a m in let u = side_at cr a m in let v = side_at cs a m in (omega (arith, ints, e, u, v, z), omega (arith, ints, e, u, v, z)))))))
+        (λ a m z. c.level a (zero_in a (has.all a (contained A m)
+        (let e = sum_cut a m in let u = side_at cr a m in let v = side_at cs a m in (omega (arith, ints, e, u, v, z), omega (arith, ints, e, u, v, z))))))
 
     far : Vector
     far = plus (scale (pos up.times) sum) x
@@ -100,19 +105,19 @@ module _ (k : ℕ) (A R : List Vector) (pointed : IsPointed k (Cut k A)) (exact 
         (λ a m. subst (λ (z : ℤ). pos 0 ≤ℤ z) (sym (far_is a)) (up.holds up.times (omega arith) a m))
 
     far_flat : Flat (ZeroOnBoth r s) A far
-    far_flat a m z = far_level a z.0 z.1 ∙ c.level a (inr (inr (has.all a m z)))
+    far_flat a m z = far_level a z.0 z.1 ∙ c.level a (zero_in a (has.all a m z))
 
     level_r : LevelAt k x r
-    level_r = record { entries = cr.entries; level = dot-comm x r ∙ c.level r (inl refl) }
+    level_r = record { entries = cr.entries; level = dot-comm x r ∙ c.level r (contained (r ∷ s ∷ zeros) (inl refl)) }
 
     level_s : LevelAt k x s
-    level_s = record { entries = cs.entries; level = dot-comm x s ∙ c.level s (inr (inl refl)) }
+    level_s = record { entries = cs.entries; level = dot-comm x s ∙ c.level s (contained (r ∷ s ∷ zeros) (inr (inl refl))) }
 
     inside : LevelAt k x far
     inside = (exact_generates k A pointed R exact (FaceIn k A (ZeroOnBoth r s) (LevelAt k x)) (face_closed k A (ZeroOnBoth r s) (LevelAt k x) (level_closed k x))
         (λ t m. record {
-          cut = (exact.edges t m).member;
-          inside = λ f. elim (adjacent.only t m f) [ inl e ↦ subst (LevelAt k x) e level_r | inr e ↦ subst (LevelAt k x) e level_s ];
+          cut = (edge_at exact t m).member;
+          inside = λ f. elim (adjacent.only t (contained R m) f) [ inl e ↦ subst (LevelAt k x) e level_r | inr e ↦ subst (LevelAt k x) e level_s ];
         }) far far_cut).inside far_flat
 
     square : dot x x ≡ pos 0

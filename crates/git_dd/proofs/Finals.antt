@@ -8,7 +8,7 @@ use Rattle.git_defs.specs.Vectors.{Vector, units, HasRank}
 use Rattle.git_defs.specs.Cones.{Cut, IsPointed, SameSet}
 use Rattle.git_lemmas.specs.Members.{Member}
 use Rattle.git_defs.proofs.Lengths.{OfLength}
-use Rattle.git_lemmas.proofs.Members.{contains_member, all_member}
+use Rattle.git_lemmas.proofs.Members.{contains_member, all_member, contained}
 use Rattle.git_geometry.proofs.Cuts.{cut_same}
 use Rattle.git_geometry.proofs.Elimination.{end_exact, end_pointed, diagonal_nonzero}
 use Rattle.git_geometry.proofs.Facets.{rays_of_exact}
@@ -36,6 +36,7 @@ use Rattle.git_dd.specs.Progress.{Progress}
 use Rattle.git_dd.specs.Stops.{IsLateWide}
 use Rattle.git_dd.specs.Tights.{AreAllTight}
 use Rattle.git_stages.specs.declared.wide.WideWhat.{WideWhat}
+use Rattle.std.proofs.lemmas.List.Elements.{Contains-append_right}
 
 -- ---- the members of a split
 pub split_to : (k : ℕ) (taken left base rest : List Vector) → IsSplit k taken left base rest → (x : Vector) → Member x (base ++ rest) → Member x (taken ++ left)
@@ -79,7 +80,7 @@ module _ (k : ℕ) (given prepared base free rays rest : List Vector) (is_prepar
   pointed = end_pointed k base rays state
 
   pub exact : Exact k base rays
-  exact = end_exact k base rays state (λ v m. p.primitive v (member_right v free rays m) (diagonal_nonzero k base rays state.diagonal v m))
+  exact = end_exact k base rays state (λ v m. p.primitive v (Contains-append_right free rays v (contained rays m)) (diagonal_nonzero k base rays state.diagonal v m))
 
   pub narrow : IsNarrowTo k base rest k
   narrow = subst (λ (u : List Vector). IsNarrowTo k u rest k) (append-nil base) (narrow_more k base [] rest k (omega (arith, full)) (omega arith) (subst (IsNarrowTo k base []) full p.narrow))
@@ -103,7 +104,7 @@ module _ (k : ℕ) (given prepared base free rays rest : List Vector) (is_prepar
 
   pub rank : IsRank k given (length base)
   rank = rank_is k given prepared base free rays (short_length k given given_short) (short_length k base p.base_short) is_prepared p.state p.from
-      (λ v m. p.spanned v (subst (Member v) (sym (take_all (length prepared) prepared (omega arith))) m))
+      (λ v m. p.spanned v (subst (λ (u : List Vector). Contains u v) (sym (take_all (length prepared) prepared (omega arith))) m))
 
   pub has_rank : HasRank k given
   has_rank = full_rank k given (short_length k given given_short) (subst (HaveIndependent k given) full rank.reached)

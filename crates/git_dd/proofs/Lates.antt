@@ -1,10 +1,10 @@
 -- A later stage that is judged.
-use Rattle.std.proofs.Common.{ℕ, zero, suc, ◌+◌, ◌<◌, ◌≤◌, List, [], ◌∷◌, length, take, drop, get_or, refl, arith, inl, inr, Some, None}
+use Rattle.std.proofs.Common.{ℕ, ◌+◌, ◌<◌, ◌≤◌, List, length, take, drop, get_or, arith, inl, inr, Some, None}
 use Rattle.std.specs.Prelude.{All}
 use Rattle.git_defs.specs.Vectors.{Vector}
 use Rattle.git_lemmas.specs.Members.{Member}
 use Rattle.git_defs.proofs.Lengths.{OfLength}
-use Rattle.git_lemmas.proofs.Members.{contains_member, member_contains}
+use Rattle.git_lemmas.proofs.Members.{contains_member, member_contains, as_member}
 use Rattle.git_geometry.proofs.Facets.{rays_of_exact}
 use Rattle.git_geometry.proofs.Sorted.{ascending_of}
 use Rattle.git_geometry.specs.Stages.{Exact}
@@ -20,18 +20,14 @@ use Rattle.git_dd.specs.Sides.{IsMarkedRay}
 use Rattle.git_dd.specs.Stops.{IsLateWide}
 use Rattle.git_dd.specs.declared.ray.Ray.{Ray}
 use Rattle.git_stages.specs.declared.wide.WideWhat.TheVariants.{Entry, Many}
-
-member_here : (xs : List Ray) (i : ℕ) (d : Ray) → i < length xs → Member (get_or xs i d) xs
-member_here [] i d h = absurd (omega arith)
-member_here (x ∷ xs) zero d h = inl refl
-member_here (x ∷ xs) (suc i) d h = inr (member_here xs i d (omega arith))
+use Rattle.std.proofs.lemmas.List.Elements.{Contains-get_or}
 
 pub rays_short : (k : ℕ) (A : List Vector) (width : ℕ) (rays : List Ray) → All (IsMarkedRay A width) rays → OfLength k (vectors rays) → IsLeastOf (vectors rays) None → All (IsRay k A width) rays
 rays_short k A width rays marked have none i d h =
-    let m = vector_in rays (get_or rays i d) (member_here rays i d h) in
+    let m = vector_in rays (get_or rays i d) (Contains-get_or rays i d h) in
     let v = (get_or rays i d).vector in
     record {
-      short = record { entries = have.each v m; within = not_large v (λ l. none v (member_contains v (vectors rays) m) l) };
+      short = record { entries = have.each v (as_member (vectors rays) m); within = not_large v (λ l. none v m l) };
       marked = marked i d h;
     }
 

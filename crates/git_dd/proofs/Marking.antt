@@ -8,7 +8,6 @@ use Rattle.std.specs.Prelude.{◌↔◌, ◌<ℤ◌}
 use Rattle.std.proofs.lemmas.Int.{ints}
 use Rattle.git_defs.specs.Vectors.{Vector, dot}
 use Rattle.git_defs.specs.Cones.{Cut}
-use Rattle.git_lemmas.proofs.Members.{member_contains}
 use Rattle.git_lemmas.proofs.Integers.{zero_of_mul}
 use Rattle.git_defs.proofs.Linear.{dot-scale}
 use Rattle.git_geometry.proofs.Blends.{blend_level, blend_flat, flat_blend}
@@ -18,6 +17,7 @@ use Rattle.git_geometry.specs.Zeros.{Flat, ZeroOnBoth}
 use Rattle.git_ints.specs.Content.{IsPrimitivePart}
 use Rattle.git_stages.proofs.Fronts.{member_at}
 use Rattle.git_dd.specs.Marks.{HasMark, IsMarked}
+use Rattle.std.proofs.lemmas.List.Elements.{Contains-get_or}
 
 -- ---- one inequality more
 end_or_before : (A : List Vector) (b : Vector) (j : ℕ) → j < length (A ++ b ∷ []) → (j < length A) ⊎ (j ≡ length A)
@@ -78,8 +78,7 @@ place (u ∷ us) (suc i) d h e = place us i d (omega arith) e
 
 module _ (A : List Vector) (width : ℕ) (r s t : Vector) (wr ws wt : List ℕ) (mr : IsMarked A width r wr) (ms : IsMarked A width s ws) (mt : IsMarked A width t wt) where
   pub marks_flat : ((j : ℕ) → HasMark wr j → HasMark ws j → HasMark wt j) → Flat (ZeroOnBoth r s) A t
-  marks_flat all a m z =
-      let c = member_contains a A m in
+  marks_flat all a c z =
       let at : get_or A c.0 [] ≡ a = place A c.0 a c.1 c.2 in
       ap (λ (u : Vector). dot u t) (sym at)
       ∙ ((mt.each c.0).0 (all c.0 ((mr.each c.0).1 (c.1, ap (λ (u : Vector). dot u r) at ∙ z.0)) ((ms.each c.0).1 (c.1, ap (λ (u : Vector). dot u s) at ∙ z.1)))).1
@@ -87,7 +86,7 @@ module _ (A : List Vector) (width : ℕ) (r s t : Vector) (wr ws wt : List ℕ) 
   pub flat_marks : Flat (ZeroOnBoth r s) A t → (j : ℕ) → HasMark wr j → HasMark ws j → HasMark wt j
   flat_marks flat j hr hs =
       let f = (mr.each j).0 hr in let g = (ms.each j).0 hs in
-      (mt.each j).1 (f.0, flat (get_or A j []) (member_at A j [] f.0) (f.1, g.1))
+      (mt.each j).1 (f.0, flat (get_or A j []) (Contains-get_or A j [] f.0) (f.1, g.1))
 
 -- ---- the blend of two vectors
 module _ (k : ℕ) (A : List Vector) (b r s w : Vector) (width : ℕ) (wr ws ww : List ℕ) (cr : Cut k A r) (cs : Cut k A s) (up : pos 0 <ℤ dot b r) (low : dot b s <ℤ pos 0)

@@ -1,17 +1,14 @@
 -- What the blends of a stage need, and what is moved.
 use Rattle.std.proofs.Common.{◌≡◌, ℕ, ◌+◌, ◌*◌, ◌<◌, ◌≤◌, List, [], ◌∷◌, ◌++◌, length, take, get_or, sym, ◌∙◌, ap, subst, arith, inl, inr, length-take}
 use Rattle.std.proofs.lemmas.List.{take_more}
-use Rattle.std.proofs.lemmas.List.Elements.{All-take, All-contains, Contains-get_or}
+use Rattle.std.proofs.lemmas.List.Elements.{All-take, All-contains, Contains-get_or, Contains-append_left}
 use Rattle.std.specs.Prelude.{◌<ℤ◌, All, Contains}
 use Rattle.std.proofs.Math.IntN.{pos}
 use Rattle.git_defs.specs.Vectors.{Vector, dot}
 use Rattle.git_defs.specs.Cones.{Cut, IsPointed}
-use Rattle.git_lemmas.specs.Members.{Member}
-use Rattle.git_lemmas.proofs.Members.{contains_member, all_member}
 use Rattle.git_geometry.specs.Stages.{Exact}
 use Rattle.git_stages.specs.Short.{IsShort}
 use Rattle.git_geometry.specs.Zeros.{Adjacent}
-use Rattle.git_geometry.proofs.Lists.{member_left}
 use Rattle.git_dd.proofs.Enough.{enough}
 use Rattle.git_dd.proofs.Nexts.{vector_in, ray_in, of_all, adjacent_before}
 use Rattle.git_dd.specs.Making.{IsSided}
@@ -32,16 +29,16 @@ module _ (k : ℕ) (A : List Vector) (n : ℕ) (b : Vector) (width : ℕ) (rays 
   marked2 : AreMarkedSides (take (n + 1) A) width sides
   marked2 = subst (λ (u : List Vector). AreMarkedSides u width sides) (sym last) marked
 
-  fit : (xs : List Ray) → All (IsMarkedRay (take (n + 1) A) width) xs → (r : Ray) → Contains xs r → Member r.vector (vectors rays) → IsFit k (take n A) (take (n + 1) A) width r
+  fit : (xs : List Ray) → All (IsMarkedRay (take (n + 1) A) width) xs → (r : Ray) → Contains xs r → Contains (vectors rays) r.vector → IsFit k (take n A) (take (n + 1) A) width r
   fit xs all r c m =
       let q = ray_in rays r.vector m in
       record {
-        short = subst (IsShort k) q.is (all_member (IsRay k (take n A) width) q.ray rays good q.member).short;
+        short = subst (IsShort k) q.is (All-contains (IsRay k (take n A) width) rays q.ray good q.member).short;
         marked = All-contains (IsMarkedRay (take (n + 1) A) width) xs r all c;
         inside = (exact.edges r.vector m).member;
       }
 
-  all_in : (x : Vector) → Member x (all_of sides) → Member x (vectors rays)
+  all_in : (x : Vector) → Contains (all_of sides) x → Contains (vectors rays) x
   all_in = of_all (take n A) (vectors rays) b (vectors sides.above.items) (vectors sides.level.items) (vectors sides.below.items) sided
 
   before : (r s : Vector) → pos 0 <ℤ dot b r → Adjacent (take (n + 1) A) (all_of sides) r s → Adjacent (take n A) (vectors rays) r s
@@ -49,7 +46,7 @@ module _ (k : ℕ) (A : List Vector) (n : ℕ) (b : Vector) (width : ℕ) (rays 
       (subst (λ (u : List Vector). Adjacent u (all_of sides) r s) last adjacent)
 
   fewer : (r s : Vector) (zeros : List Vector) → HasZeros k (take (n + 1) A) r s zeros → HasZeros k (take n A) r s zeros
-  fewer r s zeros has = record { entries = has.entries; all = λ a m z. has.all a (subst (Member a) (sym last) (member_left a (take n A) (b ∷ []) m)) z }
+  fewer r s zeros has = record { entries = has.entries; all = λ a m z. has.all a (subst (λ (u : List Vector). Contains u a) (sym last) (Contains-append_left (take n A) (b ∷ []) a m)) z }
 
   pub ready : IsReady k (take n A) (take (n + 1) A) b width sides
   ready = record {
@@ -58,8 +55,8 @@ module _ (k : ℕ) (A : List Vector) (n : ℕ) (b : Vector) (width : ℕ) (rays 
     inequality = subst (IsShort k) (sym is) (short n b h);
     short = All-take (IsShort k) (n + 1) A short;
     marked = marked2;
-    above = λ r c. let s = sided.above_in r.vector (vector_in sides.above.items r (contains_member r sides.above.items c)) in (fit sides.above.items marked2.above r c s.0, s.1);
-    below = λ r c. let s = sided.below_in r.vector (vector_in sides.below.items r (contains_member r sides.below.items c)) in (fit sides.below.items marked2.below r c s.0, s.1);
+    above = λ r c. let s = sided.above_in r.vector (vector_in sides.above.items r c) in (fit sides.above.items marked2.above r c s.0, s.1);
+    below = λ r c. let s = sided.below_in r.vector (vector_in sides.below.items r c) in (fit sides.below.items marked2.below r c s.0, s.1);
     enough = λ r s r_in s_in up low adjacent zeros has.
         enough k (take n A) (vectors rays) pointed exact r s (all_in r r_in) (all_in s s_in) (before r s up adjacent) zeros (fewer r s zeros has);
   }

@@ -2,7 +2,6 @@
 use Rattle.std.specs.Prelude.{◌≡◌, ◌⊎◌, ◌↔◌, ◌<◌, ◌≤◌, ◌*◌, ◌+◌, ◌<ℤ◌, ℕ, List, [], ◌∷◌, ◌++◌, length, pos, All, Contains}
 use Rattle.git_defs.specs.Vectors.{Vector, AllOfLength, dot}
 use Rattle.git_defs.specs.Cones.{Cut}
-use Rattle.git_lemmas.specs.Members.{Member}
 use Rattle.git_geometry.specs.Zeros.{Adjacent, ZeroOnBoth}
 use Rattle.git_geometry.specs.Stages.{blend}
 use Rattle.git_ints.specs.Content.{IsPrimitivePart}
@@ -26,7 +25,7 @@ all_of sides = vectors sides.above.items ++ (vectors sides.level.items ++ vector
 -- among the vectors of k entries are all inequalities that are 0 on both
 pub record HasZeros (k : ℕ) (A : List Vector) (r s : Vector) (zeros : List Vector) : Type 0 where
   pub entries : AllOfLength k zeros
-  pub all : (a : Vector) → Member a A → ZeroOnBoth r s a → Member a zeros
+  pub all : (a : Vector) → Contains A a → ZeroOnBoth r s a → Contains zeros a
 
 -- what the making of a blend needs of a vector
 pub record IsFit (k : ℕ) (front upto : List Vector) (width : ℕ) (ray : Ray) : Type 0 where
@@ -43,7 +42,7 @@ pub record IsReady (k : ℕ) (front upto : List Vector) (b : Vector) (width : �
   pub marked : AreMarkedSides upto width sides
   pub above : (r : Ray) → Contains sides.above.items r → IsFit k front upto width r × (pos 0 <ℤ dot b r.vector)
   pub below : (r : Ray) → Contains sides.below.items r → IsFit k front upto width r × (dot b r.vector <ℤ pos 0)
-  pub enough : (r s : Vector) → Member r (all_of sides) → Member s (all_of sides) → pos 0 <ℤ dot b r → dot b s <ℤ pos 0 → Adjacent upto (all_of sides) r s
+  pub enough : (r s : Vector) → Contains (all_of sides) r → Contains (all_of sides) s → pos 0 <ℤ dot b r → dot b s <ℤ pos 0 → Adjacent upto (all_of sides) r s
       → (zeros : List Vector) → HasZeros k upto r s zeros → k ≤ length zeros + 2
 
 -- a blend was added

@@ -1,8 +1,7 @@
 //! One stage: the extreme vectors after one inequality more.
-ghost use Rattle.std.specs.Prelude.{◌≡◌, ◌↔◌, ◌⊎◌, ◌<◌, ◌≤◌, ◌*◌, ◌+◌, ◌<ℤ◌, ◌≤ℤ◌, ℕ, List, ℤ, pos, All, IfOk, IsTrue, [], ◌∷◌, ◌++◌, length, get_or, take};
+ghost use Rattle.std.specs.Prelude.{◌≡◌, ◌↔◌, ◌⊎◌, ◌<◌, ◌≤◌, ◌*◌, ◌+◌, ◌<ℤ◌, ◌≤ℤ◌, ℕ, List, ℤ, pos, All, IfOk, IsTrue, [], ◌∷◌, ◌++◌, length, get_or, take, Contains};
 ghost use Rattle.git_defs.specs.Vectors.{Vector, dot};
 ghost use Rattle.git_defs.specs.Cones.{Cut, IsPointed};
-ghost use Rattle.git_lemmas.specs.Members.{Member};
 ghost use Rattle.git_geometry.specs.Zeros.{Flat, Adjacent, ZeroOnBoth};
 ghost use Rattle.git_geometry.specs.Stages.{blend, IsNext, Exact};
 ghost use Rattle.git_ints.specs.Content.{IsPrimitivePart};
@@ -225,8 +224,8 @@ fn add_blend(
     requires ready { IsReady k front.now upto.now b.now width sides.now }
     requires r { IsFit k front.now upto.now width r.now }
     requires s { IsFit k front.now upto.now width s.now }
-    requires r_in { Member r.now.vector (all_of sides.now) }
-    requires s_in { Member s.now.vector (all_of sides.now) }
+    requires r_in { Contains (all_of sides.now) r.now.vector }
+    requires s_in { Contains (all_of sides.now) s.now.vector }
     requires above { pos 0 <ℤ dot b.now r.now.vector }
     requires below { dot b.now s.now.vector <ℤ pos 0 }
     ensures { IfOk result (λ done. HasAdded upto.now (all_of sides.now) b.now width r.now.vector s.now.vector out.old.items out.new.items) }
@@ -255,7 +254,7 @@ fn add_blends(
     requires ready { IsReady k front.now upto.now b.now width sides.now }
     requires r { IsFit k front.now upto.now width r.now }
     requires above { pos 0 <ℤ dot b.now r.now.vector }
-    requires r_in { Member r.now.vector (all_of sides.now) }
+    requires r_in { Contains (all_of sides.now) r.now.vector }
     requires below { below.now ≡ sides.now.below.items }
     requires marked { All (IsMarkedRay upto.now width) out.old.items }
     ensures makes { IfOk result (λ done. Makes upto.now (all_of sides.now) b.now r.now.vector (vectors below.now) (vectors out.old.items) (vectors out.new.items)) }

@@ -1,13 +1,14 @@
 -- Members of the front of a list, and elements by their places.
 use Rattle.std.proofs.Common.{◌≡◌, ◌⊎◌, ℕ, zero, suc, ◌+◌, ◌<◌, ◌≤◌, List, [], ◌∷◌, ◌++◌, length, take, get_or, refl, sym, ◌∙◌, ap, subst, arith, inl, inr, drop, ◌-◌, length-drop, Some}
 use Rattle.std.proofs.lemmas.List.{take_more, take_all}
-use Rattle.std.specs.Prelude.{slice_get}
+use Rattle.std.specs.Prelude.{slice_get, Contains}
 use Rattle.git_defs.specs.Vectors.{Vector}
 use Rattle.git_lemmas.specs.Members.{Member}
 use Rattle.git_defs.proofs.Lengths.{OfLength}
 use Rattle.git_geometry.proofs.Lists.{member_either, member_left, member_right, pick_first, pick_later}
 use Rattle.git_geometry.specs.Elimination.{IsPick}
 use Rattle.std.proofs.Math.Seq.{drop-cons}
+use Rattle.std.proofs.lemmas.List.Elements.{Contains-push_cases}
 
 -- ---- members of a front
 pub member_more : (xs : List Vector) (i : ℕ) (d x : Vector) → i < length xs → Member x (take (i + 1) xs) → Member x (take i xs) ⊎ (get_or xs i d ≡ x)
@@ -15,6 +16,9 @@ member_more xs i d x h m = elim (member_either x (take i xs) (get_or xs i d ∷ 
   | inl l ↦ inl l
   | inr r ↦ elim r [ inl e ↦ inr e | inr n ↦ absurd n ]
 ]
+
+pub contains_more : (xs : List Vector) (i : ℕ) (d x : Vector) → i < length xs → Contains (take (i + 1) xs) x → Contains (take i xs) x ⊎ (get_or xs i d ≡ x)
+contains_more xs i d x h c = Contains-push_cases (take i xs) (get_or xs i d) x (subst (λ (u : List Vector). Contains u x) (take_more xs i d h) c)
 
 pub member_at : (xs : List Vector) (i : ℕ) (d : Vector) → i < length xs → Member (get_or xs i d) xs
 member_at [] i d h = absurd (omega arith)

@@ -72,3 +72,6 @@ returns-clause-wide c =
     let none = subst (IsLeastOf V) c.in-None.is least in
     let tidy : IsSortedSet V c.in-Ok-distinct.list.items = subst (λ (u : List Ray). IsSortedSet (vectors u) c.in-Ok-distinct.list.items) c.deref-2.ensures.value c.in-Ok-distinct.ensures in
     wide_many k n A V c.in-Ok-distinct.list.items c.requires.start c.requires.at exact none tidy (omega (arith, c.len-2.ensures, c.if-len-le-MANY-2.false)) c.requires.narrow
+
+pub next-requires-clause-pointed : goal.next-requires-clause-pointed
+next-requires-clause-pointed c = pointed_front c.args.k c.args.ordered.now c.args.k c.args.n c.requires.start c.requires.pointed

@@ -1,11 +1,11 @@
 use Rattle.std.proofs.Common.{◌≡◌, ◌⊎◌, List, sym, ◌∙◌, subst, arith, refl}
 use Rattle.std.proofs.lemmas.List.{take_all}
 use Rattle.git_defs.specs.Vectors.{Vector}
-use Rattle.git_lemmas.specs.Members.{Member}
 use Rattle.git_geometry.specs.Zeros.{Adjacent, Flat, ZeroOnBoth}
-use Rattle.git_stages.proofs.Fronts.{member_at}
 use Rattle.git_dd.proofs.Makes.{adjacent_more}
 use Rattle.git_dd.proofs.plain.are_adjacent.Goals as goal
+use Rattle.std.proofs.lemmas.List.Elements.{Contains-get_or}
+use Rattle.std.specs.Prelude.{Contains}
 
 pub loop-t-preserved : goal.loop-t-preserved
 loop-t-preserved c =
@@ -17,7 +17,7 @@ loop-t-preserved c =
 pub returns-then-not-is_apart : goal.returns-then-not-is_apart
 returns-then-not-is_apart c =
     let V = c.args.list.now in let i = c.loop-t.t-index in let t = c.t-item.result in
-    (λ f. absurd (cc f), λ f. sym c.if-not-is_apart.true ∙ c.is_apart.ensures.1 (f.only t (subst (λ (u : Vector). Member u V) (sym c.t-item.is) (member_at V i t (omega arith)))))
+    (λ f. absurd (cc f), λ f. sym c.if-not-is_apart.true ∙ c.is_apart.ensures.1 (f.only t (subst (Contains V) (sym c.t-item.is) (Contains-get_or V i t (omega arith)))))
 
 pub returns : goal.returns
 returns c =

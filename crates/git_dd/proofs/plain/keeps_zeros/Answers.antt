@@ -2,15 +2,16 @@ use Rattle.std.proofs.Common.{◌≡◌, ◌∙◌, List, sym, subst, arith, ref
 use Rattle.std.proofs.Math.IntN.{pos}
 use Rattle.std.proofs.lemmas.List.{take_all}
 use Rattle.git_defs.specs.Vectors.{Vector, dot}
-use Rattle.git_lemmas.specs.Members.{Member}
 use Rattle.git_geometry.specs.Zeros.{Flat, ZeroOnBoth}
-use Rattle.git_stages.proofs.Fronts.{member_at, member_more}
 use Rattle.git_dd.proofs.plain.keeps_zeros.Goals as goal
+use Rattle.std.proofs.lemmas.List.Elements.{Contains-get_or}
+use Rattle.git_stages.proofs.Fronts.{contains_more}
+use Rattle.std.specs.Prelude.{Contains}
 
 pub loop-a-preserved : goal.loop-a-preserved
 loop-a-preserved c = λ a m z.
     let V = c.args.inequalities.now in let i = c.loop-a.a-index in let b = c.a-item.result in let t = c.args.t.now in
-    elim (member_more V i b a (omega arith) m) [
+    elim (contains_more V i b a (omega arith) m) [
       | inl l ↦ c.loop-a.invariant a l z
       | inr e ↦ (
           let same = c.a-item.is ∙ e in
@@ -20,7 +21,7 @@ loop-a-preserved c = λ a m z.
 pub returns-then-not-keeps_zero : goal.returns-then-not-keeps_zero
 returns-then-not-keeps_zero c =
     let V = c.args.inequalities.now in let i = c.loop-a.a-index in let b = c.a-item.result in
-    (λ f. absurd (cc f), λ f. sym c.if-not-keeps_zero.true ∙ c.keeps_zero.ensures.1 (λ z. f b (subst (λ (u : Vector). Member u V) (sym c.a-item.is) (member_at V i b (omega arith))) z))
+    (λ f. absurd (cc f), λ f. sym c.if-not-keeps_zero.true ∙ c.keeps_zero.ensures.1 (λ z. f b (subst (Contains V) (sym c.a-item.is) (Contains-get_or V i b (omega arith))) z))
 
 pub returns : goal.returns
 returns c =

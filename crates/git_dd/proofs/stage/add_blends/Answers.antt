@@ -2,8 +2,6 @@ use Rattle.std.proofs.Common.{List, sym, subst, arith, append-nil}
 use Rattle.std.specs.Prelude.{Contains}
 use Rattle.std.proofs.lemmas.List.{take_all}
 use Rattle.git_defs.specs.Vectors.{Vector}
-use Rattle.git_geometry.proofs.Lists.{member_right}
-use Rattle.git_lemmas.proofs.Members.{contains_member}
 use Rattle.git_dd.proofs.Blending.{added_more, added_marked}
 use Rattle.git_dd.proofs.Makes.{makes_none}
 use Rattle.git_dd.proofs.Nexts.{vectors_long, vector_in}
@@ -12,6 +10,7 @@ use Rattle.git_dd.specs.Marks.{vectors}
 use Rattle.git_dd.specs.Sides.{all_of}
 use Rattle.git_dd.specs.declared.ray.Ray.{Ray}
 use Rattle.git_dd.proofs.stage.add_blends.Goals as goal
+use Rattle.std.proofs.lemmas.List.Elements.{Contains-append_right}
 
 pub add_blend-requires-clause-s : goal.add_blend-requires-clause-s
 add_blend-requires-clause-s c = (c.requires.ready.below c.s-item.result (subst (λ (u : List Ray). Contains u c.s-item.result) c.requires.below (c.loop-s.s-index, (omega arith), sym c.s-item.is))).0
@@ -23,7 +22,7 @@ pub add_blend-requires-clause-s_in : goal.add_blend-requires-clause-s_in
 add_blend-requires-clause-s_in c =
     let S = c.args.sides.now in let s = c.s-item.result in
     let a = vectors S.above.items in let l = vectors S.level.items in let d = vectors S.below.items in
-    member_right s.vector a _ (member_right s.vector l d (vector_in S.below.items s (contains_member s S.below.items (subst (λ (u : List Ray). Contains u s) c.requires.below (c.loop-s.s-index, (omega arith), sym c.s-item.is)))))
+    Contains-append_right a _ s.vector (Contains-append_right l d s.vector (vector_in S.below.items s (subst (λ (u : List Ray). Contains u s) c.requires.below (c.loop-s.s-index, (omega arith), sym c.s-item.is))))
 
 pub loop-s-init : goal.loop-s-init
 loop-s-init c = record { makes = makes_none _ _ _ _ _ _ (sym (append-nil (vectors c.args.out.now.items))); marked = c.requires.marked }
@@ -35,7 +34,7 @@ loop-s-preserved c =
     let a = vectors S.above.items in let l = vectors S.level.items in let d = vectors S.below.items in
     record {
       makes = added_more A (all_of S) c.args.b.now c.args.width c.args.r.now.vector c.args.below.now c.args.out.now.items c.loop-s.out.items c.add_blend.new.out.items i s (omega arith) c.s-item.is
-          c.requires.r_in (member_right s.vector a _ (member_right s.vector l d (vector_in S.below.items s (contains_member s S.below.items in_below)))) c.requires.above (c.requires.ready.below s in_below).1 c.loop-s.invariant.makes c.in_ok-add_blend.ensures;
+          c.requires.r_in (Contains-append_right a _ s.vector (Contains-append_right l d s.vector (vector_in S.below.items s in_below))) c.requires.above (c.requires.ready.below s in_below).1 c.loop-s.invariant.makes c.in_ok-add_blend.ensures;
       marked = added_marked A (all_of S) c.args.b.now c.args.width c.args.r.now.vector s.vector c.loop-s.out.items c.add_blend.new.out.items c.loop-s.invariant.marked c.in_ok-add_blend.ensures;
     }
 

@@ -1,10 +1,8 @@
 use Rattle.std.proofs.Common.{List, sym, subst, arith, [], append-nil}
 use Rattle.std.specs.Prelude.{Contains}
 use Rattle.std.proofs.lemmas.List.{take_all}
-use Rattle.std.proofs.lemmas.List.Elements.{All-nil, All-same}
+use Rattle.std.proofs.lemmas.List.Elements.{All-nil, All-same, Contains-append_left}
 use Rattle.git_defs.specs.Vectors.{Vector}
-use Rattle.git_geometry.proofs.Lists.{member_left}
-use Rattle.git_lemmas.proofs.Members.{contains_member}
 use Rattle.git_dd.proofs.Makes.{makes_all_none, makes_all_more}
 use Rattle.git_dd.proofs.Nexts.{vectors_long, vector_in, vector_at}
 use Rattle.git_dd.specs.Making.{Makes, MakesAll}
@@ -22,7 +20,7 @@ add_blends-requires-clause-above c = (c.requires.ready.above c.r-item.result (su
 pub add_blends-requires-clause-r_in : goal.add_blends-requires-clause-r_in
 add_blends-requires-clause-r_in c =
     let S = c.args.sides.now in let r = c.r-item.result in
-    member_left r.vector (vectors S.above.items) _ (vector_in S.above.items r (contains_member r S.above.items (subst (λ (u : List Ray). Contains u r) c.requires.above (c.loop-r.r-index, (omega arith), sym c.r-item.is))))
+    Contains-append_left (vectors S.above.items) _ r.vector (vector_in S.above.items r (subst (λ (u : List Ray). Contains u r) c.requires.above (c.loop-r.r-index, (omega arith), sym c.r-item.is)))
 
 pub loop-r-init : goal.loop-r-init
 loop-r-init c = record {

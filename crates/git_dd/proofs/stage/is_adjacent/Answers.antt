@@ -1,13 +1,13 @@
 use Rattle.std.proofs.Common.{◌≡◌, ◌⊎◌, List, sym, ◌∙◌, subst, arith, refl}
 use Rattle.std.proofs.lemmas.List.{take_all}
 use Rattle.git_defs.specs.Vectors.{Vector}
-use Rattle.git_lemmas.specs.Members.{Member}
 use Rattle.git_geometry.specs.Zeros.{Adjacent, Flat, ZeroOnBoth}
-use Rattle.git_stages.proofs.Fronts.{member_at}
 use Rattle.git_dd.proofs.Makes.{adjacent_more}
 use Rattle.git_dd.proofs.Nexts.{vector_at, vectors_long}
 use Rattle.git_dd.specs.Marks.{vectors}
 use Rattle.git_dd.proofs.stage.is_adjacent.Goals as goal
+use Rattle.std.proofs.lemmas.List.Elements.{Contains-get_or}
+use Rattle.std.specs.Prelude.{Contains}
 
 pub loop-t-preserved : goal.loop-t-preserved
 loop-t-preserved c =
@@ -21,7 +21,7 @@ pub returns-then-not-leaves_apart : goal.returns-then-not-leaves_apart
 returns-then-not-leaves_apart c =
     let V = vectors c.args.rays.now in let i = c.loop-t.t-index in let t = c.t-item.result in
     let e = vector_at c.args.rays.now i t (omega arith) c.t-item.is in
-    (λ f. absurd (cc f), λ f. sym c.if-not-leaves_apart.true ∙ c.leaves_apart.ensures.1 (f.only t.vector (subst (λ (u : Vector). Member u V) e (member_at V i t.vector (omega (arith, vectors_long c.args.rays.now))))))
+    (λ f. absurd (cc f), λ f. sym c.if-not-leaves_apart.true ∙ c.leaves_apart.ensures.1 (f.only t.vector (subst (Contains V) e (Contains-get_or V i t.vector (omega (arith, vectors_long c.args.rays.now))))))
 
 pub returns : goal.returns
 returns c =
