@@ -1,17 +1,17 @@
 -- Undominated vectors, and the canonical cones of generators and of inequalities.
-use Rattle.std.proofs.Common.{◌≡◌, ◌⊎◌, ℕ, zero, suc, ◌+◌, ◌*◌, ◌<◌, ◌≤◌, List, [], ◌∷◌, ◌++◌, length, take, get_or, refl, sym, ◌∙◌, ap, subst, arith, inl, inr}
-use Rattle.std.proofs.Math.IntN.{ℤ, pos, ◌*ℤ◌, pos-*ℤ-pos}
+use Rattle.std.proofs.Common.{◌≡◌, ℕ, ◌+◌, ◌<◌, ◌≤◌, List, [], ◌∷◌, ◌++◌, length, take, get_or, sym, ◌∙◌, ap, subst, arith, inl, inr}
+use Rattle.std.proofs.Math.IntN.{ℤ, pos, ◌*ℤ◌}
 use Rattle.std.proofs.lemmas.Int.{ints}
 use Rattle.std.specs.Prelude.{All, AllPairs, Contains, ◌↔◌, ◌<ℤ◌, slice_get, Some}
-use Rattle.git_defs.specs.Vectors.{Vector, zero_vector, scale, dot, IsPrimitive, HasRank, Precedes, vector_sum}
-use Rattle.git_defs.specs.Cones.{InCone, OnRay, Cut, Dual, SameSet, IsPointed, IsClosed, AreRays, AreFacets}
+use Rattle.git_defs.specs.Vectors.{Vector, zero_vector, scale, dot, HasRank, Precedes, vector_sum}
+use Rattle.git_defs.specs.Cones.{InCone, Cut, Dual, SameSet, IsPointed, IsClosed, AreRays, AreFacets}
 use Rattle.git_defs.proofs.Closed.{positive_or_zero, closed_cone, cone_closed, cone_has}
 use Rattle.git_lemmas.specs.Members.{Member}
 use Rattle.git_defs.proofs.Lengths.{OfLength, of_length_all}
-use Rattle.git_lemmas.proofs.Members.{contains_member, member_contains, member_all, all_member}
+use Rattle.git_lemmas.proofs.Members.{contains_member, member_contains, member_all, as_member, contained}
 use Rattle.git_lemmas.proofs.Integers.{nonneg_of_mul}
-use Rattle.git_defs.proofs.Linear.{dot-comm, dot-scale, length-scale, length-zero}
-use Rattle.git_defs.proofs.Sums.{cone_scale, cone_zero, scale-zero, scale-scale}
+use Rattle.git_defs.proofs.Linear.{dot-comm, dot-scale, length-zero}
+use Rattle.git_defs.proofs.Sums.{cone_scale, cone_zero}
 use Rattle.git_geometry.proofs.Facets.{rays_by_dropping, facets_by_dropping, facets_same, facets_rank, rays_rank, rays_same, rays_generate}
 use Rattle.git_geometry.proofs.Identities.{product_zero}
 use Rattle.git_geometry.proofs.Independence.{rank_pointed}
@@ -19,45 +19,43 @@ use Rattle.git_geometry.proofs.Inside.{inside_rank, inside_of_sum, length-vector
 use Rattle.git_geometry.proofs.Pointed.{no_zero_sum_pointed}
 use Rattle.git_grading.specs.Gradings.{IsMatrix, IsGrading}
 use Rattle.git_geometry.specs.Germs.{HasInside}
-use Rattle.git_geometry.proofs.Lists.{member_left, member_right, member_either}
-use Rattle.git_geometry.proofs.Cuts.{cut_closed, side_at}
+use Rattle.git_geometry.proofs.Cuts.{side_at}
 use Rattle.git_geometry.proofs.Minkowski.{weyl, generators_of_length}
 use Rattle.git_geometry.proofs.Primitive.{primitive_part, primitive_nonzero, vanish}
-use Rattle.git_geometry.proofs.Rays.{edge_along, ray_of_generator, primitive_of_ray, rays_along, same_back, same_through, dual_cut, dual_along, pointed_along}
+use Rattle.git_geometry.proofs.Rays.{rays_along, same_back, same_through, dual_cut, dual_along, pointed_along}
 use Rattle.git_geometry.proofs.Sorted.{rays_once}
 use Rattle.git_geometry.proofs.Squares.{vector_zero_or_not}
 use Rattle.git_geometry.specs.Zeros.{Dominates, AreUndominated}
-use Rattle.git_stages.proofs.Fronts.{member_more, member_at}
-use Rattle.git_stages.proofs.Listed.{listed}
+use Rattle.git_stages.proofs.Fronts.{contains_more}
 use Rattle.git_stages.proofs.Prepares.{prepared_length, prepared_cut, prepared_rank, prepared_short}
 use Rattle.git_stages.proofs.Shorts.{short_length}
 use Rattle.git_stages.specs.Short.{IsShort}
 use Rattle.git_stages.specs.Prepared.{IsPrepared, IsAlong, IsSortedSet}
-use Rattle.git_dd.proofs.Lates.{tidied_to, tidied_back}
-use Rattle.git_canon.specs.Canons.{IsAlone, IsCanon, HasInsideOf, Described, IsCanonical, IsCanonOf, entries_of}
+use Rattle.git_canon.specs.Canons.{IsAlone, IsCanon, HasInsideOf, IsCanonical, IsCanonOf, entries_of}
+use Rattle.std.proofs.lemmas.List.Elements.{Contains-append_left, Contains-push, Contains-push_cases, Contains-get_or, All-contains}
 
 -- ---- as the loop comes
 pub record AloneTo (A given front out : List Vector) : Type 0 where
-  pub from : (r : Vector) → Member r out → Member r given
-  pub only : (r s : Vector) → Member r out → Member s given → Dominates A s r → s ≡ r
-  pub back : (r : Vector) → Member r front → IsAlone A given r → Member r out
+  pub from : (r : Vector) → Contains out r → Contains given r
+  pub only : (r s : Vector) → Contains out r → Contains given s → Dominates A s r → s ≡ r
+  pub back : (r : Vector) → Contains front r → IsAlone A given r → Contains out r
 
 pub alone_none : (A given : List Vector) → AloneTo A given [] []
-alone_none A given = record { from = λ r m. absurd m; only = λ r s m n d. absurd m; back = λ r m a. absurd m }
+alone_none A given = record { from = λ r m. absurd (as_member [] m); only = λ r s m n d. absurd (as_member [] m); back = λ r m a. absurd (as_member [] m) }
 
 pub alone_more : (A given out : List Vector) (i : ℕ) (d : Vector) → i < length given → AloneTo A given (take i given) out → IsAlone A given (get_or given i d) → AloneTo A given (take (i + 1) given) (out ++ get_or given i d ∷ [])
 alone_more A given out i d h t alone = record {
-  from = λ r m. elim (member_either r out (get_or given i d ∷ []) m) [
+  from = λ r m. elim (Contains-push_cases out (get_or given i d) r m) [
     | inl l ↦ t.from r l
-    | inr n ↦ elim n [ inl e ↦ subst (λ (u : Vector). Member u given) e (member_at given i d h) | inr o ↦ absurd o ]
+    | inr e ↦ subst (Contains given) e (Contains-get_or given i d h)
   ];
-  only = λ r s m n o. elim (member_either r out (get_or given i d ∷ []) m) [
+  only = λ r s m n o. elim (Contains-push_cases out (get_or given i d) r m) [
     | inl l ↦ t.only r s l n o
-    | inr q ↦ elim q [ inl e ↦ subst (λ (u : Vector). s ≡ u) e (alone s n (subst (Dominates A s) (sym e) o)) | inr z ↦ absurd z ]
+    | inr e ↦ subst (λ (u : Vector). s ≡ u) e (alone s n (subst (Dominates A s) (sym e) o))
   ];
-  back = λ r m a. elim (member_more given i d r h m) [
-    | inl l ↦ member_left r out (get_or given i d ∷ []) (t.back r l a)
-    | inr e ↦ member_right r out (get_or given i d ∷ []) (inl e)
+  back = λ r m a. elim (contains_more given i d r h m) [
+    | inl l ↦ Contains-append_left out (get_or given i d ∷ []) r (t.back r l a)
+    | inr e ↦ subst (Contains (out ++ get_or given i d ∷ [])) e (Contains-push out (get_or given i d))
   ];
 }
 
@@ -65,7 +63,7 @@ pub alone_skip : (A given out : List Vector) (i : ℕ) (d : Vector) → i < leng
 alone_skip A given out i d h t none = record {
   from = t.from;
   only = t.only;
-  back = λ r m a. elim (member_more given i d r h m) [ inl l ↦ t.back r l a | inr e ↦ absurd (none (subst (IsAlone A given) (sym e) a)) ];
+  back = λ r m a. elim (contains_more given i d r h m) [ inl l ↦ t.back r l a | inr e ↦ absurd (none (subst (IsAlone A given) (sym e) a)) ];
 }
 
 pub alone_all : (A given out : List Vector) → AloneTo A given given out → AreUndominated A given out
@@ -73,9 +71,9 @@ alone_all A given out t = record { from = t.from; only = t.only; back = t.back }
 
 pub undominated_sorted : (A given out list : List Vector) → AreUndominated A given out → IsSortedSet out list → AreUndominated A given list
 undominated_sorted A given out list u t = record {
-  from = λ r m. u.from r (tidied_to out list t r m);
-  only = λ r s m n d. u.only r s (tidied_to out list t r m) n d;
-  back = λ r m f. tidied_back out list t r (u.back r m f);
+  from = λ r m. u.from r ((t.each r).0 m);
+  only = λ r s m n d. u.only r s ((t.each r).0 m) n d;
+  back = λ r m f. (t.each r).1 (u.back r m f);
 }
 
 -- ---- the prepared list has the same cone
@@ -199,7 +197,7 @@ described k C rays facets some few canon pointed rr fr rs fs =
     }
 
 undominated_short : (k : ℕ) (A list out : List Vector) → All (IsShort k) list → AreUndominated A list out → All (IsShort k) out
-undominated_short k A list out short u = member_all (IsShort k) out (λ v m. all_member (IsShort k) v list short (u.from v m))
+undominated_short k A list out short u = member_all (IsShort k) out (λ v m. All-contains (IsShort k) list v short (u.from v (contained out m)))
 
 pub described_generators : (k : ℕ) (given list facets rays : List Vector) → 1 ≤ k → k ≤ 6 → All (IsShort k) given → All (IsShort k) facets → HasRank k given
     → IsPointed k (InCone k given) → IsPrepared given list → AreRays k (Cut k given) facets → AreUndominated facets list rays → AllPairs Precedes rays

@@ -1,8 +1,7 @@
 -- Canonical cones: a pointed cone of full dimension by its rays and its facets.
-use Rattle.std.specs.Prelude.{◌≡◌, ◌≢◌, ◌<◌, ◌≤◌, ◌<ℤ◌, ℕ, List, [], ◌∷◌, length, pos, Contains, All}
+use Rattle.std.specs.Prelude.{◌≡◌, ◌≢◌, ◌≤◌, ◌<ℤ◌, ℕ, List, [], ◌∷◌, length, pos, Contains, All}
 use Rattle.git_defs.specs.Vectors.{Vector, HasRank, zero_vector, dot}
 use Rattle.git_defs.specs.Cones.{InCone, Cut, AreRays, AreFacets, SameSet, IsPointed}
-use Rattle.git_lemmas.specs.Members.{Member}
 use Rattle.git_geometry.specs.Zeros.{Dominates}
 use Rattle.git_stages.specs.Short.{IsShort}
 use Rattle.git_stages.specs.Wide.{IsWideAt}
@@ -63,4 +62,4 @@ pub record HasInsideOf (k : ℕ) (given : List Vector) : Type 0 where
 
 -- no other of them dominates r
 abbrev pub IsAlone : List Vector → List Vector → Vector → Type 0
-IsAlone A given r = (s : Vector) → Member s given → Dominates A s r → s ≡ r
+IsAlone A given r = (s : Vector) → Contains given s → Dominates A s r → s ≡ r

@@ -1,9 +1,9 @@
 use Rattle.std.proofs.Common.{◌≡◌, take}
 use Rattle.git_defs.specs.Vectors.{Vector}
-use Rattle.git_lemmas.specs.Members.{Member}
 use Rattle.git_geometry.specs.Zeros.{Dominates}
 use Rattle.git_dd.specs.Marks.{vectors}
 use Rattle.git_canon.proofs.dropping.is_alone.Given as goal
+use Rattle.std.specs.Prelude.{Contains}
 
 abbrev pub invariant-loop-s : goal.invariant-loop-s
-invariant-loop-s l = (s : Vector) → Member s (take l.s-index (vectors l.given)) → Dominates l.inequalities s l.r.vector → s ≡ l.r.vector
+invariant-loop-s l = (s : Vector) → Contains (take l.s-index (vectors l.given)) s → Dominates l.inequalities s l.r.vector → s ≡ l.r.vector

@@ -1,4 +1,4 @@
-use Rattle.std.proofs.Common.{◌≡◌, ℕ, List, sym, subst}
+use Rattle.std.proofs.Common.{ℕ, List, subst}
 use Rattle.std.specs.Prelude.{◌↔◌, IsTrue}
 use Rattle.git_dd.proofs.Marking.{marks_flat, flat_marks}
 use Rattle.git_dd.specs.Marks.{HasMark}

@@ -1,4 +1,4 @@
-use Rattle.std.proofs.Common.{◌≡◌, List, take, sym, ◌∙◌, ap, subst, arith, inl, inr, refl}
+use Rattle.std.proofs.Common.{List, sym, ◌∙◌, subst, arith, inl, inr, refl}
 use Rattle.std.specs.Prelude.{pos, ◌≤ℤ◌}
 use Rattle.std.proofs.lemmas.List.{take_all}
 use Rattle.git_defs.specs.Vectors.{Vector, dot}
