@@ -10,7 +10,7 @@ use Rattle.git_defs.specs.Vectors.{HasRank, Vector}
 use Rattle.git_geometry.proofs.Independence.{chosen_member, chosen_of_length, no_common_zero}
 use Rattle.git_geometry.proofs.Ranks.{rank_or_zero}
 use Rattle.git_grading.specs.Gradings.{IsGrading}
-use Rattle.git_lemmas.proofs.Members.{contains_member, member_all, member_contains}
+use Rattle.git_lemmas.proofs.Members.{contains_member, member_all, member_contains, contained}
 use Rattle.git_lemmas.specs.Members.{Member}
 use Rattle.git_minors.proofs.Parts.{face_of_length}
 use Rattle.git_orbit.proofs.Settled.{Decided, cones_or_wide}
@@ -24,7 +24,7 @@ full_decided : (k : ℕ) (vs : List Vector) → OfLength k vs → Decided (HasRa
 full_decided k vs have = elim (rank_or_zero k vs have) [
   | inl rank ↦ inl rank
   | inr z ↦ inr (λ rank. z.nonzero (no_common_zero k rank.chosen z.vector (chosen_of_length k vs have rank) rank.independent rank.count z.entries
-      (λ b m. z.level b (chosen_member k vs rank b m))))
+      (λ b m. z.level b (contained vs (chosen_member k vs rank b m)))))
 ]
 
 -- ---- the list of accepted full faces

@@ -24,7 +24,7 @@ use Rattle.git_geometry.proofs.Squares.{vector_zero_or_not}
 use Rattle.git_geometry.proofs.Units.{length-units, units_of_length, units_span}
 use Rattle.git_geometry.specs.Elimination.{Eliminated}
 use Rattle.git_geometry.specs.Generators.{Generates, RayOf}
-use Rattle.git_lemmas.proofs.Members.{all_member, contains_member, member_all, member_contains}
+use Rattle.git_lemmas.proofs.Members.{all_member, contains_member, member_all, member_contains, as_member}
 use Rattle.git_lemmas.specs.Members.{Member}
 use Rattle.git_stages.proofs.Exist.{lists_exist, prepared_exists, rays_exist}
 use Rattle.git_stages.proofs.Prepares.{prepared_cut, prepared_length, prepared_rank, prepared_short}
@@ -34,20 +34,21 @@ use Rattle.git_stages.specs.Eliminations.{AreEliminated, IsSplit}
 use Rattle.git_stages.specs.Prepared.{IsAlong}
 use Rattle.git_stages.specs.Short.{IsShort}
 use Rattle.git_stages.specs.Wide.{IsLarge, NeverWide}
+use Rattle.git_geometry.proofs.Contained.{inside_at}
 
 -- ---- a primitive vector along a short one is short
 along_short : (k : ℕ) (given : List Vector) (x : Vector) → All (IsShort k) given → length x ≡ k → IsPrimitive x → RayOf given x → IsShort k x
 along_short k given x short long primitive ray =
     let some = primitive_nonzero k x long primitive in
     let have = short_length k given short in
-    let one_long = have.each ray.one ray.member in
+    let one_long = have.each ray.one (as_member given ray.member) in
     elim (vector_zero_or_not k ray.one one_long) [
       | inl z ↦ absurd (some (vanish k ray.on.multiple x ray.on.positive (ray.on.same ∙ ap (scale (pos ray.on.times)) z ∙ scale-zero (pos ray.on.times) k)))
       | inr other ↦ (
           let q = primitive_part k ray.one one_long other in
           let p = prepared_exists given in
           let along : IsAlong q.vector ray.one = record { times = q.times; positive = q.positive; is = q.is } in
-          let member = contains_member q.vector p.list (p.prepared.each q.vector ray.one (member_contains ray.one given ray.member) q.primitive along) in
+          let member = contains_member q.vector p.list (p.prepared.each q.vector ray.one ray.member q.primitive along) in
           let is_short = all_member (IsShort k) q.vector p.list (prepared_short k given p.list p.prepared short) member in
           let on : OnRay x q.vector = record {
             multiple = ray.on.multiple;
@@ -164,7 +165,7 @@ module _ (k : ℕ) (given : List Vector) (some : 1 ≤ k) (short : All (IsShort 
       member_all (IsShort k) list (λ v m.
       let e = (at.each v).0 (member_contains v list m) in
       along_short k l.rays v rays_short e.edge.member.entries e.primitive
-      (ray_of_generator k (Cut k n.base) l.rays v (cut_closed k n.base) g.inside e.edge ((generators_same k n.base l.rays g v).0 e.edge.member)))
+      (ray_of_generator k (Cut k n.base) l.rays v (cut_closed k n.base) (inside_at g) e.edge ((generators_same k n.base l.rays g v).0 e.edge.member)))
 
   pub narrow_rays : HasShortRays k given
   narrow_rays =

@@ -19,13 +19,13 @@ use Rattle.git_orbit.specs.declared.orbit.OrbitCone.{OrbitCone}
 -- ---- the cone with a number
 -- e is the cone with number i
 pub record IsConeAt (fan : Fan) (i : ℕ) (e : OrbitCone) : Type 0 where
-  pub member : Member e fan.list
+  pub member : Contains fan.list e
   pub entries : e.canon.k ≡ fan.k
   pub facets : facets_at fan i ≡ e.canon.facets
 
 pub cone_here : (fan : Fan) → IsFan fan.k fan.list → (i : ℕ) (e : OrbitCone) → i < length fan.list → e ≡ get_or fan.list i e → IsConeAt fan i e
 cone_here fan is i e low at =
-    let m = contains_member e fan.list (i, low, sym at) in
+    let m : Contains fan.list e = (i, low, sym at) in
     record {
       member = m;
       entries = (is.cones.each e m).canon.entries;
@@ -48,7 +48,7 @@ face_of_cone k columns accepted e is = λ x. (λ c. (is.same x).1 ((is.canon.can
 -- a cone with its number, of any list
 pub record ReadCone (k : ℕ) (list : List OrbitCone) (i : ℕ) : Type 0 where
   pub cone : OrbitCone
-  pub member : Member cone list
+  pub member : Contains list cone
   pub facets : facets_at (record { k = k; list = list }) i ≡ cone.canon.facets
   pub greatest : slice_index (greatest_of list) i ≡ cone.greatest
 
@@ -57,7 +57,7 @@ read_cone k list i low =
     let r = read list i low in
     record {
       cone = r.0;
-      member = contains_member r.0 list (i, low, sym r.1);
+      member = (i, low, sym r.1);
       facets = get_or-map (λ (c : OrbitCone). c.canon.facets) list i r.0 [] low ∙ ap (λ (c : OrbitCone). c.canon.facets) (sym r.1);
       greatest = get_or-map (λ (c : OrbitCone). c.greatest) list i r.0 0 low ∙ ap (λ (c : OrbitCone). c.greatest) (sym r.1);
     }

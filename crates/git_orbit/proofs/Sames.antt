@@ -9,7 +9,7 @@ use Rattle.git_defs.specs.Faces.{face, face_cone, SameCone}
 use Rattle.git_defs.proofs.Closed.{cone_closed, closed_cone, cone_has}
 use Rattle.git_defs.proofs.Linear.{length-scale}
 use Rattle.git_lemmas.specs.Members.{Member}
-use Rattle.git_lemmas.proofs.Members.{member_contains, member_all, all_member}
+use Rattle.git_lemmas.proofs.Members.{member_contains, member_all, all_member, as_member, contained}
 use Rattle.git_defs.proofs.Lengths.{OfLength}
 use Rattle.git_defs.proofs.Sums.{scale-zero, scale-scale}
 use Rattle.git_geometry.proofs.Cuts.{cut_closed}
@@ -46,7 +46,7 @@ module _ (k : ℕ) (Q W : List Vector) (m0 held : ℕ) (hits : List ℕ) (R F : 
     λ c. (canon.cut_out x).1 (closed_cone k (Cut k F) (face Q m) x (cut_closed k F) (sel_to (Cut k F) Q m held within key.within) c),
     λ c. closed_cone k (InCone k (face Q m)) R x (cone_closed k (face Q m) have_m) (λ r n.
         let z = zip_to (λ (r : Vector). Selects (λ (w : Vector). w ≡ r) W) R hits r along n in
-        let t = meets_to (λ (w : Vector). w ≡ r) W m z.one z.related (key.meets z.one z.member) in
+        let t = meets_to (λ (w : Vector). w ≡ r) W m z.one z.related (key.meets z.one (contained hits z.member)) in
         let f = zip_back IsPrimitivePart (face Q m) (face W m) t.one parts_m t.member in
         let p = (f.related).positive in
         subst (InCone k (face Q m)) t.holds ((cone_closed k (face Q m) have_m).quotients (pos (f.related).divisor) t.one (omega (arith, ints, p)) (subst (InCone k (face Q m)) (f.related).is (cone_has k (face Q m) f.one have_m f.member)))) ((canon.generated x).0 c),
@@ -58,11 +58,12 @@ module _ (k : ℕ) (Q W : List Vector) (m0 held : ℕ) (hits : List ℕ) (R F : 
       let edge = edge_along k (face_cone k Q m0) (face_cone k Q m) r (same_back (face_cone k Q m) (face_cone k Q m0) same) e.edge in
       let on = ray_of_generator k (face_cone k Q m) (face Q m) r (cone_closed k (face Q m) have_m) (λ v i. cone_has k (face Q m) v have_m i) edge edge.member in
       let a = on.one in
-      let la = have_m.each a on.member in
+      let in_face = as_member (face Q m) on.member in
+      let la = have_m.each a in_face in
       elim (vector_zero_or_not k a la) [
         | inl z ↦ absurd (e.edge.nonzero (vanish k (on.on).multiple r (on.on).positive ((on.on).same ∙ ap (scale (pos (on.on).times)) z ∙ scale-zero (pos (on.on).times) k)))
         | inr some ↦ (
-            let q = zip_to IsPrimitivePart (face Q m) (face W m) a parts_m on.member in
+            let q = zip_to IsPrimitivePart (face Q m) (face W m) a parts_m in_face in
             let x = q.one in
             let part = q.related in
             let o : OnRay r x = record {
@@ -80,6 +81,6 @@ module _ (k : ℕ) (Q W : List Vector) (m0 held : ℕ) (hits : List ℕ) (R F : 
   key_of_same lt same = record {
     within = sel_from (Cut k F) Q m held lt within (λ v n. (canon.cut_out v).0 ((same v).0 (cone_has k (face Q m) v have_m n)));
     meets = λ a n e.
-        let z = zip_back (λ (r : Vector). Selects (λ (w : Vector). w ≡ r) W) R hits a along n in
+        let z = zip_back (λ (r : Vector). Selects (λ (w : Vector). w ≡ r) W) R hits a along (as_member hits n) in
         meets_from (λ (w : Vector). w ≡ z.one) W m a z.one z.related (ray_in same z.one z.member) refl e;
   }

@@ -19,7 +19,7 @@ use Rattle.git_geometry.proofs.Farkas.{farkas}
 use Rattle.git_geometry.proofs.Rays.{dual_cut}
 use Rattle.git_geometry.proofs.Sorted.{rays_once}
 use Rattle.git_grading.specs.Gradings.{IsGrading}
-use Rattle.git_lemmas.proofs.Members.{all_member, contains_member, member_all, member_contains}
+use Rattle.git_lemmas.proofs.Members.{all_member, contains_member, member_all, member_contains, contained}
 use Rattle.git_lemmas.specs.Members.{Member}
 use Rattle.git_minors.proofs.Parts.{face_of_length}
 use Rattle.git_orbit.proofs.Descriptions.{narrow_described}
@@ -294,14 +294,14 @@ module _ (k : ℕ) (columns : List Vector) (masks : List ℕ) (grading : IsGradi
         greatest = λ n f same. g.greatest n (contains_member n masks f.is_accepted) (same_trans k columns n g.mask mask same g.same);
       } in
       let c = with_greatest list g.mask (contains_member g.mask (greatest_of list) ((are.cones.each g.mask).1 is)) in
-      let o = are.each c.cone c.member in
+      let o = are.each c.cone (contained list c.member) in
       let same : SameCone k columns mask c.cone.least = same_trans k columns mask g.mask c.cone.least (same_sym k columns g.mask mask g.same)
       (subst (λ (n : ℕ). SameCone k columns n c.cone.least) c.is o.same)
       in
       let low = least.least c.cone.least o.least.is_face (same_sym k columns mask c.cone.least same) in
       let high = o.least.least mask least.is_face same in
       let equal : c.cone.least ≡ mask = omega (arith, low, high) in
-      wide_not_never k (face columns mask) at.stage at.what fault.1 (subst (λ (n : ℕ). NeverWide k (face columns n)) equal (are.narrow c.cone c.member))
+      wide_not_never k (face columns mask) at.stage at.what fault.1 (subst (λ (n : ℕ). NeverWide k (face columns n)) equal (are.narrow c.cone (contained list c.member)))
 
 -- ---- each is one
 canon_once : (k : ℕ) (C : Vector → Type 0) (c d : Described) → IsCanonOf k C c → IsCanonOf k C d → c ≡ d
@@ -334,7 +334,7 @@ module _ (k : ℕ) (columns : List Vector) (accepted : ℕ → Type 0) where
       λ i. first i ∷ rest i
 
   pub cones_once : (a b : List OrbitCone) → AreOrbitCones k columns accepted a → AreOrbitCones k columns accepted b → a ≡ b
-  cones_once a b p q = lists_once a b p.each q.each (falling_once (greatest_of a) (greatest_of b) p.cones.descending q.cones.descending
+  cones_once a b p q = lists_once a b (λ e m. p.each e (contained a m)) (λ e m. q.each e (contained b m)) (falling_once (greatest_of a) (greatest_of b) p.cones.descending q.cones.descending
       (λ m o. contains_member m (greatest_of b) ((q.cones.each m).1 ((p.cones.each m).0 (member_contains m (greatest_of a) o))))
       (λ m o. contains_member m (greatest_of a) ((p.cones.each m).1 ((q.cones.each m).0 (member_contains m (greatest_of b) o)))))
 

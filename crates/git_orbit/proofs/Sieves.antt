@@ -8,12 +8,13 @@ use Rattle.std.proofs.lemmas.Map.Keys.{IsDistinct-IsPermutation, apart_from_dist
 use Rattle.git_defs.specs.Vectors.{Vector}
 use Rattle.git_defs.specs.Faces.{face, IsConeFace, SameCone, IsGreatestMask, IsLeastMask}
 use Rattle.git_lemmas.specs.Members.{Member}
-use Rattle.git_lemmas.proofs.Members.{member_contains, contains_member}
+use Rattle.git_lemmas.proofs.Members.{member_contains, contains_member, as_member, contained}
 use Rattle.git_stages.specs.Wide.{NeverWide, IsWideAt}
 use Rattle.git_orbit.specs.Orbits.{AreFaces, IsOrbitCone, greatest_of, AreOrbitCones, IsConesFault, IsNewFault, IsOne, HasCone, Differ, Sieved}
 use Rattle.git_orbit.specs.declared.orbit.OrbitCone.{OrbitCone}
 use Rattle.git_orbit.specs.declared.orbit.ConesFault.{ConesFault}
 use Rattle.git_orbit.specs.declared.orbit.ConesFault.TheVariants.{Wide, NoMemory}
+use Rattle.std.proofs.lemmas.List.Elements.{Contains-append_left, Contains-push, Contains-push_cases}
 
 order : (i j : ℕ) → (i < j) ⊎ (j ≤ i)
 order zero zero = inr (omega arith)
@@ -25,21 +26,6 @@ any_default : {X : Type 0} (xs : List X) (i : ℕ) (d e : X) → i < length xs �
 any_default [] i d e h = absurd (omega arith)
 any_default (x ∷ xs) zero d e h = refl
 any_default (x ∷ xs) (suc i) d e h = any_default xs i d e (omega arith)
-
-member_end : {X : Type 0} (e f : X) (us : List X) → Member e (us ++ f ∷ []) → Member e us ⊎ (f ≡ e)
-member_end e f [] (inl q) = inr q
-member_end e f [] (inr q) = absurd q
-member_end e f (u ∷ us) (inl q) = inl (inl q)
-member_end e f (u ∷ us) (inr q) = elim (member_end e f us q) [ inl o ↦ inl (inr o) | inr o ↦ inr o ]
-
-end_left : {X : Type 0} (e f : X) (us : List X) → Member e us → Member e (us ++ f ∷ [])
-end_left e f (u ∷ us) (inl q) = inl q
-end_left e f (u ∷ us) (inr q) = inr (end_left e f us q)
-end_left e f [] q = absurd q
-
-end_last : {X : Type 0} (f : X) (us : List X) → Member f (us ++ f ∷ [])
-end_last f [] = inl refl
-end_last f (u ∷ us) = inr (end_last f us)
 
 pub record From (list : List OrbitCone) (m : ℕ) : Type 0 where
   pub cone : OrbitCone
@@ -57,8 +43,8 @@ to_greatest (f ∷ fs) e (inl q) = inl (ap (λ (c : OrbitCone). c.greatest) q)
 to_greatest (f ∷ fs) e (inr q) = inr (to_greatest fs e q)
 
 differ_push : (xs : List ℕ) (y : ℕ) → Differ xs → ((x : ℕ) → Member x xs → x ≡ y → ⊥) → Differ (xs ++ y ∷ [])
-differ_push [] y d new = ((λ z n e. absurd n), tt)
-differ_push (x ∷ xs) y d new = ((λ z n e. elim (member_end z y xs n) [ inl o ↦ d.0 z o e | inr o ↦ new x (inl refl) (e ∙ sym o) ]), differ_push xs y d.1 (λ z n. new z (inr n)))
+differ_push [] y d new = ((λ z n e. absurd (as_member [] n)), tt)
+differ_push (x ∷ xs) y d new = ((λ z n e. elim (Contains-push_cases xs y z n) [ inl o ↦ d.0 z o e | inr o ↦ new x (inl refl) (e ∙ sym o) ]), differ_push xs y d.1 (λ z n. new z (inr n)))
 
 each_apart : (x : ℕ) (xs : List ℕ) → ((y : ℕ) → Member y xs → x ≡ y → ⊥) → AllByRecursion (λ y. eqb x y ≡ false) xs
 each_apart x [] h = tt
@@ -67,7 +53,7 @@ each_apart x (y ∷ ys) h = (ne_eqb x y (h y (inl refl)), each_apart x ys (λ z 
 distinct_of : (xs : List ℕ) → Differ xs → IsDistinct eqb xs
 unfolding IsDistinct
 distinct_of [] d = tt
-distinct_of (x ∷ xs) d = (each_apart x xs d.0, distinct_of xs d.1)
+distinct_of (x ∷ xs) d = (each_apart x xs (λ y n. d.0 y (contained xs n)), distinct_of xs d.1)
 
 eqb_flips : (x y : ℕ) → eqb x y ≡ eqb y x
 eqb_flips x y = elim (order x y) [
@@ -115,9 +101,9 @@ module _ (k : ℕ) (Q : List Vector) (masks : List ℕ) (faces : AreFaces k Q ma
   pub sieve_none : (seen : List Bool) → length seen ≡ length masks → ((p : ℕ) → p < length masks → get_or seen p true ≡ false) → Sieved k Q masks (length masks) seen []
   sieve_none seen long none = record {
     long = long;
-    each = λ e n. absurd n;
-    narrow = λ e n. absurd n;
-    marks = λ p h. ((λ t. let f = none p h in cc (t, f)), (λ c. absurd c.member));
+    each = λ e n. absurd (as_member [] n);
+    narrow = λ e n. absurd (as_member [] n);
+    marks = λ p h. ((λ t. let f = none p h in cc (t, f)), (λ c. absurd (as_member [] c.member)));
     all = λ p l h. absurd (omega (arith, l, h));
     differ = tt;
   }
@@ -217,24 +203,24 @@ module _ (k : ℕ) (Q : List Vector) (masks : List ℕ) (faces : AreFaces k Q ma
       }
 
       grown : (m : ℕ) → HasCone k Q list m → HasCone k Q (list ++ e ∷ []) m
-      grown m h = record { cone = h.cone; member = end_left h.cone e list h.member; same = h.same }
+      grown m h = record { cone = h.cone; member = Contains-append_left list (e ∷ []) h.cone h.member; same = h.same }
 
       added : (m : ℕ) → SameCone k Q m (at c) → HasCone k Q (list ++ e ∷ []) m
-      added m t = record { cone = e; member = end_last e list; same = same_trans k Q m (at c) e.greatest t (same_sym k Q e.greatest (at c) greatest_same) }
+      added m t = record { cone = e; member = Contains-push list e; same = same_trans k Q m (at c) e.greatest t (same_sym k Q e.greatest (at c) greatest_same) }
 
       differs : (x : ℕ) → Member x (greatest_of list) → x ≡ e.greatest → ⊥
       differs x n q =
           let f = from_greatest list x n in
-          fresh (record { cone = f.cone; member = f.member; same = subst (λ (j : ℕ). SameCone k Q (at c) j) (sym (f.is ∙ q)) (same_sym k Q e.greatest (at c) greatest_same) })
+          fresh (record { cone = f.cone; member = contained list f.member; same = subst (λ (j : ℕ). SameCone k Q (at c) j) (sym (f.is ∙ q)) (same_sym k Q e.greatest (at c) greatest_same) })
 
       pub sieve_new : Sieved k Q masks c new (list ++ e ∷ [])
       sieve_new = record {
         long = one.swept.long ∙ s.long;
-        each = λ f n. elim (member_end f e list n) [ inl o ↦ s.each f o | inr o ↦ subst (IsOrbitCone k Q (Contains masks)) o orbit_cone ];
-        narrow = λ f n. elim (member_end f e list n) [ inl o ↦ s.narrow f o | inr o ↦ subst (λ (g : OrbitCone). NeverWide k (face Q g.least)) o one.narrow ];
+        each = λ f n. elim (Contains-push_cases list e f n) [ inl o ↦ s.each f o | inr o ↦ subst (IsOrbitCone k Q (Contains masks)) o orbit_cone ];
+        narrow = λ f n. elim (Contains-push_cases list e f n) [ inl o ↦ s.narrow f o | inr o ↦ subst (λ (g : OrbitCone). NeverWide k (face Q g.least)) o one.narrow ];
         marks = λ p l. (
           λ t. elim ((one.swept.marks p l).0 t) [ inl o ↦ grown (at p) ((s.marks p (omega (arith, l))).0 o) | inr o ↦ added (at p) o ],
-          λ h. (one.swept.marks p l).1 (elim (member_end h.cone e list h.member) [
+          λ h. (one.swept.marks p l).1 (elim (Contains-push_cases list e h.cone h.member) [
             | inl o ↦ inl ((s.marks p (omega (arith, l))).1 (record { cone = h.cone; member = o; same = h.same }))
             | inr o ↦ inr (same_trans k Q (at p) e.greatest (at c) (subst (λ (g : OrbitCone). SameCone k Q (at p) g.greatest) (sym o) h.same) greatest_same)
           ]),
@@ -248,11 +234,11 @@ module _ (k : ℕ) (Q : List Vector) (masks : List ℕ) (faces : AreFaces k Q ma
 
   -- ---- the end
   module _ (seen : List Bool) (list out : List OrbitCone) (s : Sieved k Q masks 0 seen list) (same : IsPermutation list out) (falling : AllPairs (λ (c d : OrbitCone). d.greatest ≤ c.greatest) out) where
-    back : (e : OrbitCone) → Member e out → Member e list
-    back e n = contains_member e list (Contains-permutation out list e (IsPermutation-sym list out same) (member_contains e out n))
+    back : (e : OrbitCone) → Contains out e → Contains list e
+    back e n = Contains-permutation out list e (IsPermutation-sym list out same) n
 
-    forth : (e : OrbitCone) → Member e list → Member e out
-    forth e n = contains_member e out (Contains-permutation list out e same (member_contains e list n))
+    forth : (e : OrbitCone) → Contains list e → Contains out e
+    forth e n = Contains-permutation list out e same n
 
     distinct : IsDistinct eqb (greatest_of out)
     distinct = IsDistinct-IsPermutation eqb eqb_flips (greatest_of list) (greatest_of out) (IsPermutation-map (λ (e : OrbitCone). e.greatest) list out same) (distinct_of (greatest_of list) s.differ)
@@ -294,7 +280,7 @@ module _ (k : ℕ) (Q : List Vector) (masks : List ℕ) (faces : AreFaces k Q ma
       cones = record {
         descending = descending;
         each = λ m. (
-          λ c. let f = from_greatest out m (contains_member m (greatest_of out) c) in subst (IsGreatestMask k Q (Contains masks)) f.is (s.each f.cone (back f.cone f.member)).greatest,
+          λ c. let f = from_greatest out m (contains_member m (greatest_of out) c) in subst (IsGreatestMask k Q (Contains masks)) f.is (s.each f.cone (back f.cone (contained out f.member))).greatest,
           λ g.
               let p = place_of m g.is_face.is_accepted in
               let a = s.all p.p (omega arith) p.in_range in
@@ -303,7 +289,7 @@ module _ (k : ℕ) (Q : List Vector) (masks : List ℕ) (faces : AreFaces k Q ma
               let one : m ≤ a.cone.greatest = o.greatest.greatest m g.is_face t in
               let two : a.cone.greatest ≤ m = g.greatest a.cone.greatest o.greatest.is_face (same_sym k Q m a.cone.greatest t) in
               let is : a.cone.greatest ≡ m = omega (arith, one, two) in
-              member_contains m (greatest_of out) (subst (λ (j : ℕ). Member j (greatest_of out)) is (to_greatest out a.cone (forth a.cone a.member))),
+              member_contains m (greatest_of out) (subst (λ (j : ℕ). Member j (greatest_of out)) is (to_greatest out a.cone (as_member out (forth a.cone a.member)))),
         );
       };
     }

@@ -2,7 +2,6 @@
 use Rattle.std.specs.Prelude.{◌≡◌, ◌↔◌, ℕ, ◌<◌, ◌≤◌, ◌^◌, List, [], ◌∷◌, length, map, get_or, Bool, true, AllPairs, Contains, All}
 use Rattle.git_defs.specs.Vectors.{Vector}
 use Rattle.git_defs.specs.Faces.{face, face_cone, IsFullDimensional, SameCone, IsGreatestMask, IsLeastMask, AreCones}
-use Rattle.git_lemmas.specs.Members.{Member}
 use Rattle.git_stages.specs.Wide.{NeverWide, IsWideAt}
 use Rattle.git_canon.specs.Canons.{IsCanonOf}
 use Rattle.git_orbit.specs.Keys.{IsSwept}
@@ -31,8 +30,8 @@ greatest_of list = map (λ (e : OrbitCone). e.greatest) list
 
 -- what `Cones::new` answers
 pub record AreOrbitCones (k : ℕ) (columns : List Vector) (accepted : ℕ → Type 0) (list : List OrbitCone) : Type 0 where
-  pub each : (e : OrbitCone) → Member e list → IsOrbitCone k columns accepted e
-  pub narrow : (e : OrbitCone) → Member e list → NeverWide k (face columns e.least)
+  pub each : (e : OrbitCone) → Contains list e → IsOrbitCone k columns accepted e
+  pub narrow : (e : OrbitCone) → Contains list e → NeverWide k (face columns e.least)
   pub cones : AreCones k columns accepted (greatest_of list)
 
 -- the least of the least masks whose columns are wide
@@ -66,19 +65,19 @@ pub record IsOne (k : ℕ) (columns : List Vector) (masks : List ℕ) (i : ℕ) 
 -- some cone of the list is that of the mask
 pub record HasCone (k : ℕ) (columns : List Vector) (list : List OrbitCone) (m : ℕ) : Type 0 where
   pub cone : OrbitCone
-  pub member : Member cone list
+  pub member : Contains list cone
   pub same : SameCone k columns m cone.greatest
 
 -- all differ
 abbrev pub Differ : List ℕ → Type 0
 Differ [] = Unit {0}
-Differ (x ∷ xs) = ((y : ℕ) → Member y xs → x ≡ y → ⊥) × Differ xs
+Differ (x ∷ xs) = ((y : ℕ) → Contains xs y → x ≡ y → ⊥) × Differ xs
 
 -- the loop's state: the faces from place c on have been seen
 pub record Sieved (k : ℕ) (columns : List Vector) (masks : List ℕ) (c : ℕ) (seen : List Bool) (list : List OrbitCone) : Type 0 where
   pub long : length seen ≡ length masks
-  pub each : (e : OrbitCone) → Member e list → IsOrbitCone k columns (Contains masks) e
-  pub narrow : (e : OrbitCone) → Member e list → NeverWide k (face columns e.least)
+  pub each : (e : OrbitCone) → Contains list e → IsOrbitCone k columns (Contains masks) e
+  pub narrow : (e : OrbitCone) → Contains list e → NeverWide k (face columns e.least)
   pub marks : (p : ℕ) → p < c → (get_or seen p true ≡ true) ↔ HasCone k columns list (get_or masks p 0)
   pub all : (p : ℕ) → c ≤ p → p < length masks → HasCone k columns list (get_or masks p 0)
   pub differ : Differ (greatest_of list)

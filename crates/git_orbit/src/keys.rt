@@ -1,12 +1,11 @@
 //! Masks of one cone.
-ghost use Rattle.std.specs.Prelude.{◌≡◌, ◌↔◌, ◌≤◌, ◌<◌, ℕ, List, AllPairs, IsTrue, length, get_or};
+ghost use Rattle.std.specs.Prelude.{◌≡◌, ◌↔◌, ◌≤◌, ◌<◌, ℕ, List, AllPairs, IsTrue, length, get_or, Contains};
 ghost use Rattle.std.specs.Int.RustNames.{bit_and};
-ghost use Rattle.git_lemmas.specs.Members.{Member};
 ghost use Rattle.git_orbit.specs.Keys.{HasKey, IsSwept};
 
 /// Whether the mask meets each of the others.
 fn meets_all(alongs: &[u16], m: u16) -> bool
-    ensures { IsTrue result ↔ ((a : ℕ) → Member a alongs.now → bit_and m a ≡ 0 → ⊥) }
+    ensures { IsTrue result ↔ ((a : ℕ) → Contains alongs.now a → bit_and m a ≡ 0 → ⊥) }
 {
     for a in alongs {
         if m & *a == 0 {
