@@ -11,7 +11,7 @@ use Rattle.git_defs.proofs.Closed.{cone_has}
 use Rattle.git_defs.proofs.Linear.{length-scale}
 use Rattle.git_defs.proofs.Sums.{scale-scale}
 use Rattle.git_lemmas.specs.Members.{Member}
-use Rattle.git_lemmas.proofs.Members.{contains_member, member_contains, all_member, member_all}
+use Rattle.git_lemmas.proofs.Members.{contains_member, member_contains, all_member, member_all, as_member}
 use Rattle.git_geometry.specs.Elimination.{Eliminated, Run, signed}
 use Rattle.git_geometry.specs.Generators.{RayOf}
 use Rattle.git_geometry.proofs.Cuts.{cut_same, cut_closed}
@@ -32,6 +32,7 @@ use Rattle.git_stages.proofs.Listed.{irreflexive}
 use Rattle.git_stages.proofs.Prepares.{prepared_cut, prepared_length, prepared_rank}
 use Rattle.git_stages.proofs.Shorts.{within_or_not}
 use Rattle.git_dd.proofs.Finals.{split_to, split_from}
+use Rattle.git_geometry.proofs.Contained.{inside_at}
 
 -- ---- the base of a split
 split_independent : (k : ℕ) (taken left base rest : List Vector) → IsSplit k taken left base rest → AreIndependent k taken → AreIndependent k base
@@ -86,7 +87,7 @@ few_on_rays k C generators list have some on rays =
     let all = once_fits list p.list (sorted_once list rays.ordered) (member_all (Contains p.list) list (λ x m.
     let e = (rays.each x).0 (member_contains x list m) in
     let o = on x e.edge in
-    member_contains x p.list (p.all x e.primitive e.edge.nonzero o.one o.member o.on))) in
+    member_contains x p.list (p.all x e.primitive e.edge.nonzero o.one (as_member generators o.member) o.on))) in
     omega (arith, all, p.size)
 
 -- ---- where no inequality is left after the base, it has k rays
@@ -119,7 +120,7 @@ module _ (k : ℕ) (given prepared base : List Vector) (is : IsPrepared given pr
       (cut_same k prepared base base_from (λ v m. split_to k [] prepared base [] split v (member_left v base [] m))) in
       let g = end_generates k base run.rays state in
       let few = few_on_rays k (Cut k base) run.rays list (all_of_length k run.rays state.entries) (diagonal_nonzero k base run.rays state.diagonal)
-      (λ x e. ray_of_generator k (Cut k base) run.rays x (cut_closed k base) g.inside e (g.all x e.member)) (rays_along k (Cut k given) (Cut k base) list same rays) in
+      (λ x e. ray_of_generator k (Cut k base) run.rays x (cut_closed k base) (inside_at g) e (g.all x e.member)) (rays_along k (Cut k given) (Cut k base) list same rays) in
       let n = length-diagonal base run.rays state.diagonal in
       let s = run.size in
       omega (arith, few, n, s)

@@ -27,6 +27,7 @@ use Rattle.git_chamber.specs.Nexts.{crossing_ends, facets_have, rays_have}
 use Rattle.git_chamber.specs.declared.cell.Side.TheVariants.{Inner}
 use Rattle.git_chamber.proofs.Gatherings.{walls_exist}
 use Rattle.git_chamber.proofs.Facets.{cone_facets, walls_cut, walls_have, walls_point, walls_rank}
+use Rattle.git_geometry.proofs.Contained.{inside_at}
 
 module _ (fan : Fan) (sig : Signature) (is : IsFan fan.k fan.list) (legal : IsLegal fan sig) where
   module _ (rays facets : List Vector) (weight : Vector) (chamber : IsChamber fan sig rays facets weight) where
@@ -76,7 +77,7 @@ module _ (fan : Fan) (sig : Signature) (is : IsFan fan.k fan.list) (legal : IsLe
       let m = minkowski fan.k w.0 in
       let same = walls_cut fan sig is legal w.0 w.1 in (
         m.list,
-        member_all (InChamber fan sig) m.list (λ v o. (same v).0 (m.generates.inside v o)),
+        member_all (InChamber fan sig) m.list (λ v o. (same v).0 (inside_at m.generates v o)),
         inside_rank fan.k w.0 m.list m.generates (walls_point fan sig is legal w.0 w.1),
       )
 
