@@ -2,7 +2,7 @@
 use Rattle.std.proofs.Common.{◌≡◌, ◌⊎◌, ℕ, zero, suc, ◌+◌, ◌-◌, ◌<◌, ◌≤◌, ◌^◌, ◌/◌, Bool, true, false, List, [], ◌∷◌, ◌++◌, length, arith, inl, inr, refl, subst}
 use Rattle.std.specs.Prelude.{if◌then◌else◌}
 use Rattle.git_lemmas.specs.Members.{Member}
-use Rattle.git_lemmas.proofs.Members.{contains_member, member_contains}
+use Rattle.git_lemmas.proofs.Members.{contains_member, member_contains, contained}
 use Rattle.git_lemmas.proofs.Sorting.{once, ascends_of_pairs}
 use Rattle.git_bits.specs.Bits.{has_bit}
 use Rattle.git_defs.specs.Vectors.{Vector, AllOfLength, HasRank}
@@ -23,7 +23,7 @@ face_of_length k (q ∷ qs) m have = by (has_bit m 0) (face_of_length k qs (m / 
 rank_or_not : (k : ℕ) (vs : List Vector) → OfLength k vs → HasRank k vs ⊎ (HasRank k vs → ⊥)
 rank_or_not k vs have = elim (rank_or_zero k vs have) [
   | inl rank ↦ inl rank
-  | inr z ↦ inr (λ rank. z.nonzero (no_common_zero k rank.chosen z.vector (chosen_of_length k vs have rank) rank.independent rank.count z.entries (λ b m. z.level b (chosen_member k vs rank b m))))
+  | inr z ↦ inr (λ rank. z.nonzero (no_common_zero k rank.chosen z.vector (chosen_of_length k vs have rank) rank.independent rank.count z.entries (λ b m. z.level b (contained vs (chosen_member k vs rank b m)))))
 ]
 
 gathered : (k : ℕ) (columns : List Vector) (count i : ℕ) → OfLength k columns → count ≤ 2 ^ length columns → i ≤ count → (masks : List ℕ) × FacesFrom k columns count i masks

@@ -6,7 +6,7 @@ use Rattle.std.proofs.lemmas.Int.{ints}
 use Rattle.git_defs.specs.Vectors.{Vector, zero_vector, scale, plus, dot, combination, AllOfLength, HasRank, HasZeroSum}
 use Rattle.git_defs.specs.Cones.{InCone}
 use Rattle.git_lemmas.proofs.Integers.{mul_pos}
-use Rattle.git_lemmas.proofs.Members.{member_contains}
+use Rattle.git_lemmas.proofs.Members.{member_contains, contained}
 use Rattle.git_defs.proofs.Lengths.{OfLength, first_of_length, rest_of_length, all_of_length}
 use Rattle.git_defs.proofs.Linear.{dot-plus, dot-scale, dot-zero, length-scale, length-combination, combination_beside}
 use Rattle.git_defs.proofs.Sums.{scale_none, zero-plus}
@@ -72,5 +72,5 @@ judge d each = by (rank_or_zero d.k d.columns have) (zero_sum_or_none d.k d.colu
     by (inr z) s = (
       low_rank,
       λ rank. z.nonzero (no_common_zero d.k rank.chosen z.vector (chosen_of_length d.k d.columns have rank) rank.independent rank.count z.entries
-          (λ b m. z.level b (chosen_member d.k d.columns rank b m))),
+          (λ b m. z.level b (contained d.columns (chosen_member d.k d.columns rank b m)))),
     )
