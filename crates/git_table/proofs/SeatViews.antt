@@ -18,6 +18,7 @@ use Rattle.git_visits.specs.declared.view.Post.TheVariants.{Held}
 use Rattle.git_visits.specs.Visits.{records, state_at, live_at, stop_at, hash_at, home_of, probe, HasSeen, opening_view}
 use Rattle.git_visits.specs.Lists.{front_of, tail_of}
 use Rattle.git_visits.specs.Cuttings.{kept_half, given_half, joined, given_work, joined_work}
+use Rattle.git_visits.proofs.Seating.{in_tail, in_front}
 use Rattle.git_table.proofs.Stacks.{stacked_tail, stacked_front}
 use Rattle.git_visits.specs.Seats.{HasIn, Extends, Led, ShowsPublished, SpareHeld, SpareLeft, with_look, with_seen, with_over}
 use Rattle.git_table.specs.declared.answers.Offer.{Offer}
@@ -177,15 +178,6 @@ map_front (x ∷ xs) = refl
 option_end : (o : Option ℕ) → option_list o ++ [] ≡ option_list o
 option_end None = refl
 option_end (Some n) = refl
-
-in_tail : (l : List (ℕ × Signature)) (n : ℕ) (p : ℕ × Signature) → get_elem? (tail_of l) n ≡ some p → (m : ℕ) × (get_elem? l m ≡ some p)
-in_tail [] n p e = (n, e)
-in_tail (x ∷ xs) n p e = (suc n, e)
-
-in_front : (l : List (ℕ × Signature)) (n : ℕ) (p : ℕ × Signature) → get_elem? (front_of l) n ≡ some p → (m : ℕ) × (get_elem? l m ≡ some p)
-in_front [] n p e = (n, e)
-in_front (x ∷ xs) zero p e = (0, e)
-in_front (x ∷ xs) (suc n) p e = absurd (some-ne-none p (sym e))
 
 in_either : (l m : List (ℕ × Signature)) (n : ℕ) (p : ℕ × Signature) → get_elem? (l ++ m) n ≡ some p → ((j : ℕ) × (get_elem? l j ≡ some p)) ⊎ ((j : ℕ) × (get_elem? m j ≡ some p))
 in_either [] m n p e = inr (n, e)

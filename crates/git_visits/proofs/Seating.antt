@@ -46,11 +46,11 @@ tail_few : (l : List (ℕ × Signature)) → length (tail_of l) ≡ length l - 1
 tail_few [] = refl
 tail_few (x ∷ xs) = omega arith
 
-in_tail : (l : List (ℕ × Signature)) (n : ℕ) (p : ℕ × Signature) → get_elem? (tail_of l) n ≡ some p → (m : ℕ) × (get_elem? l m ≡ some p)
+pub in_tail : (l : List (ℕ × Signature)) (n : ℕ) (p : ℕ × Signature) → get_elem? (tail_of l) n ≡ some p → (m : ℕ) × (get_elem? l m ≡ some p)
 in_tail [] n p e = (n, e)
 in_tail (x ∷ xs) n p e = (suc n, e)
 
-in_front : (l : List (ℕ × Signature)) (n : ℕ) (p : ℕ × Signature) → get_elem? (front_of l) n ≡ some p → (m : ℕ) × (get_elem? l m ≡ some p)
+pub in_front : (l : List (ℕ × Signature)) (n : ℕ) (p : ℕ × Signature) → get_elem? (front_of l) n ≡ some p → (m : ℕ) × (get_elem? l m ≡ some p)
 in_front [] n p e = (n, e)
 in_front (x ∷ xs) zero p e = (0, e)
 in_front (x ∷ xs) (suc n) p e = absurd (some-ne-none p (sym e))

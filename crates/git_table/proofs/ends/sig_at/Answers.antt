@@ -1,4 +1,4 @@
-use Rattle.std.proofs.Common.{◌≡◌, ◌∙◌}
+use Rattle.std.proofs.Common.{◌∙◌}
 use Rattle.std.specs.Slots.{slots_items}
 use Rattle.git_table.proofs.Listings.{cut_is}
 use Rattle.git_table.proofs.ends.sig_at.Goals as goal
