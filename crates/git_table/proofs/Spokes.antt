@@ -1,9 +1,6 @@
 -- The graph of the tests, and its callers.
-use Rattle.std.proofs.Common.{◌≡◌, ◌≢◌, ℕ, zero, suc, ◌+◌, ◌-◌, ◌<◌, ◌≤◌, List, [], ◌∷◌, ◌++◌, length, length-append, slice_index_or, refl, sym, ap, ◌∙◌, subst, arith, Option, Some, None, Bool, true, false}
-use Rattle.std.specs.List.{All, Contains}
-use Rattle.std.proofs.lemmas.List.Elements.{All-push, All-nil}
-use mathlib.Core.Option.{some}
-use lib.ListN.{get_elem?}
+use Rattle.std.proofs.Common.{◌≡◌, ◌≢◌, ℕ, zero, suc, ◌+◌, ◌-◌, ◌<◌, ◌≤◌, List, [], ◌∷◌, ◌++◌, length, length-append, slice_index_or, refl, sym, ap, ◌∙◌, subst, arith, None, Bool, true, false}
+use Rattle.std.specs.List.{Contains}
 use native.Mathlib.Decide.{dec_lt}
 use Rattle.git_machine.specs.Signatures.{Signature}
 use Rattle.git_table.specs.declared.answers.Offer.{Offer}
@@ -12,7 +9,7 @@ use Rattle.git_table.specs.Views.{FrontierView, SeatView}
 use Rattle.git_table.specs.declared.answers.Taken.TheVariants as taken
 use Rattle.git_table.specs.declared.answers.Hinted.TheVariants as hinted
 use Rattle.git_table.specs.Calls.{IsOf, Sees, OfferTells, TakeTells, HintTells}
-use Rattle.git_table.specs.Spokes.{spokes, HasHand, IsCaller}
+use Rattle.git_table.specs.Spokes.{spokes, IsCaller}
 
 pub spokes_long : (n : ℕ) → length (spokes n) ≡ n
 spokes_long zero = refl
@@ -86,3 +83,7 @@ module _ {G : Type 0} (f : FrontierView G) (s t u : SeatView G) (id : ℕ) (x : 
 
   pub hint_read : (r : ℕ) → HintTells f s t r (hinted.Work id) → IsCaller f u true
   hint_read r o = subst (λ (w : SeatView G). IsCaller f w true) (sym (read ∙ (ap (λ (m : ℕ). record t { seen = (m, x) ∷ t.seen }) o.0 ∙ ap (λ (w : SeatView G). record w { seen = (r, x) ∷ w.seen }) o.1))) record { of = of; place = place; hand = λ _. (r, x, refl, (0, refl)); free = λ e. absurd (not_free e) }
+
+-- a seat of one place with no hand
+pub free_caller : {G : Type 0} (f : FrontierView G) (s : SeatView G) → IsOf f s → s.places ≡ 1 → s.hand ≡ None → IsCaller f s false
+free_caller f s of place free = record { of = of; place = place; hand = λ e. absurd (not_free (sym e)); free = λ _. free }

@@ -1,9 +1,7 @@
 -- The graph of the tests: each number leads to the numbers from 1 to the last.
-use Rattle.std.specs.Prelude.{◌≡◌, ℕ, zero, suc, ◌+◌, List, [], ◌∷◌, ◌++◌, length, Option, Some, None, Bool, true, false, refl}
+use Rattle.std.specs.Prelude.{◌≡◌, ℕ, zero, suc, ◌+◌, List, [], ◌∷◌, ◌++◌, length, Some, None, Bool, true, false, refl}
 use Rattle.std.specs.List.{All}
 use Rattle.std.proofs.lemmas.List.Elements.{All-nil, All-push}
-use mathlib.Core.Option.{some}
-use lib.ListN.{get_elem?}
 use Rattle.git_machine.specs.Signatures.{Signature}
 use Rattle.git_table.specs.Views.{FrontierView, SeatView}
 use Rattle.git_table.specs.Calls.{IsOf, Sees}

@@ -1,9 +1,9 @@
 //! Callers of a frontier, one by one and at once. No function but those that make threads has a bound:
-//! they make each call of the frontier, so none of its calls can wait.
+//! they make each call of the frontier but `close_full`, so none of these can wait.
 ghost use Rattle.std.specs.Prelude.{◌≡◌, ◌<◌, ◌≤◌, ◌+◌, ℕ, List, true, false, IfOk, length, IsTrue};
 ghost use Rattle.std.specs.List.{All, Contains};
 ghost use Rattle.git_machine.specs.Signatures.{Signature};
-ghost use Rattle.git_table.specs.Calls.{IsOf, Sees, room};
+ghost use Rattle.git_table.specs.Calls.{IsOf, Sees, room, first_seat};
 ghost use Rattle.git_table.specs.Spokes.{spokes, HasHand, IsCaller};
 
 use crate::{Frontier, Hinted, Listed, Offer, Seat, Taken};
@@ -184,16 +184,20 @@ fn finish(
     Ok(Said::Done)
 }
 
-/// Takes and finishes until nothing is left, or there is a fault.
-fn work(alloc: Global, frontier: &Frontier<Star>, star: &Star, caller: &mut Caller)
+/// Takes and finishes until nothing is left, so many ids are finished, or there is a fault.
+fn work(alloc: Global, frontier: &Frontier<Star>, star: &Star, most: u64, caller: &mut Caller)
     requires caller { IsCaller frontier.now caller.old.seat caller.old.busy }
     requires star { frontier.now.graph ≡ star.now }
     ensures { IsCaller frontier.now caller.new.seat caller.new.busy }
 {
+    let mut finished = 0u64;
     for _round in 0..1_000_000_000u64 {
+        if finished == most {
+            return;
+        }
         match take(frontier, caller) {
             Said::Work(_) => match finish(alloc, frontier, star, caller) {
-                Ok(Said::Done) => {}
+                Ok(Said::Done) => finished = finished.wrapping_add(1),
                 _ => return,
             },
             Said::NotYet => {}
@@ -275,26 +279,27 @@ fn run(
     Ok(right)
 }
 
-/// The listing of two callers that are joined, where neither has a hand.
+/// The listing of all callers, joined, where none has a hand.
 fn joined(
     alloc: Global,
     frontier: Frontier<Star>,
-    first: Caller,
-    second: Caller,
+    mut callers: Vec<Caller>,
 ) -> Result<Option<Listed>, NoMemory>
-    requires workers { frontier.workers ≡ 2 }
-    requires first { IsCaller frontier first.seat first.busy }
-    requires second { IsCaller frontier second.seat second.busy }
+    requires workers { frontier.workers ≡ length callers.items }
+    requires callers { All (λ m. IsCaller frontier m.seat m.busy) callers.items }
 {
-    let Caller { seat: one, busy } = first;
-    let Caller {
-        seat: two,
-        busy: other,
-    } = second;
-    if busy || other {
+    let Some(Caller { mut seat, busy }) = callers.pop() else {
+        return Ok(None);
+    };
+    if busy {
         return Ok(None);
     }
-    let seat = frontier.join(one, two);
+    while let Some(Caller { seat: other, busy }) = callers.pop() {
+        if busy {
+            return Ok(None);
+        }
+        seat = frontier.join(seat, other);
+    }
     Ok(Some(frontier.close(alloc, seat)?))
 }
 
@@ -329,7 +334,8 @@ fn play(
         &mut second,
         rows,
     )?;
-    Ok((right, joined(alloc, frontier, first, second)?))
+    let callers = Vec::from_array(alloc, [first, second])?;
+    Ok((right, joined(alloc, frontier, callers)?))
 }
 
 /// Whether these numbers are listed, in this order.
@@ -348,33 +354,45 @@ fn lists(listed: &Option<Listed>, numbers: &[u64]) -> bool {
     true
 }
 
-/// Whether the numbers from 0 to 100 are listed, each once.
-fn has_each_once(listed: &Option<Listed>) -> bool {
+/// Whether the numbers below `count` are listed, each once.
+fn has_each_once(alloc: Global, listed: &Option<Listed>, count: usize) -> Result<bool, NoMemory> {
     let Some(listed) = listed else {
-        return false;
+        return Ok(false);
     };
-    let mut found = [false; 101];
+    let mut found = vec![in alloc; false; count]?;
     for sig in listed.sigs.as_slice().iter() {
-        if sig.width() != 1 || sig.word(0) >= 101 || found[sig.word(0) as usize] {
-            return false;
+        if sig.width() != 1 || sig.word(0) >= count as u64 || found[sig.word(0) as usize] {
+            return Ok(false);
         }
         found[sig.word(0) as usize] = true;
     }
-    listed.sigs.len() == 101
+    Ok(listed.sigs.len() == count)
 }
 
-/// The listing, if a take says that nothing is left.
-fn end(alloc: Global, frontier: Frontier<Star>, caller: Caller) -> Result<Option<Listed>, NoMemory>
-    requires { IsCaller frontier caller.seat caller.busy }
+/// A caller for each place of the seat.
+fn callers(
+    alloc: Global,
+    frontier: &Frontier<Star>,
+    seat: Seat<Star>,
+    workers: u32,
+) -> Result<Vec<Caller>, NoMemory>
+    requires seat { seat ≡ first_seat frontier.now }
+    requires workers { (frontier.now.workers ≡ workers) × (0 < workers) }
+    ensures long { IfOk result (λ l. length l.items ≡ workers) }
+    ensures callers { IfOk result (λ l. All (λ m. IsCaller frontier.now m.seat m.busy) l.items) }
 {
-    let Caller { mut seat, busy } = caller;
-    if busy {
-        return Ok(None);
+    let mut seat = seat;
+    let mut all = Vec::new(alloc);
+    for _k in 1..workers {
+        let (rest, one) = frontier.split(seat);
+        seat = rest;
+        all.push(Caller {
+            seat: one,
+            busy: false,
+        })?;
     }
-    match frontier.take(&mut seat) {
-        Taken::Quiet => Ok(Some(frontier.close(alloc, seat)?)),
-        Taken::Work(_) | Taken::NotYet | Taken::Halted => Ok(None),
-    }
+    all.push(Caller { seat, busy: false })?;
+    Ok(all)
 }
 
 /// All callers work, each on a thread.
@@ -383,6 +401,7 @@ fn work_all<R: Threads + Sync>(
     alloc: Global,
     frontier: &Frontier<Star>,
     star: &Star,
+    most: u64,
     callers: &mut [Caller],
 )
     requires callers { All (λ m. IsCaller frontier.now m.seat m.busy) callers.old }
@@ -392,8 +411,46 @@ fn work_all<R: Threads + Sync>(
     let each = |_i: usize, m: &mut Caller|
         requires { (frontier.now.graph ≡ star.now) × IsCaller frontier.now m.now.seat m.now.busy }
         ensures { IsCaller frontier.entry.now m.exit.now.seat m.exit.now.busy }
-    { work(alloc, frontier, star, m) };
+    { work(alloc, frontier, star, most, m) };
     for_each_mut(rt, callers, 8, &each);
+}
+
+/// The callers after their work.
+fn worked<R: Threads + Sync>(
+    rt: &R,
+    alloc: Global,
+    frontier: &Frontier<Star>,
+    star: &Star,
+    most: u64,
+    mut callers: Vec<Caller>,
+) -> Vec<Caller>
+    requires callers { All (λ m. IsCaller frontier.now m.seat m.busy) callers.items }
+    requires star { frontier.now.graph ≡ star.now }
+    ensures long { length result.items ≡ length callers.items }
+    ensures callers { All (λ m. IsCaller frontier.now m.seat m.busy) result.items }
+{
+    work_all(rt, alloc, frontier, star, most, callers.as_mut_slice());
+    callers
+}
+
+/// Threads offer the numbers up to the last, for each id that they finish, and each finishes so many ids at
+/// most. Says whether the numbers are listed, each once.
+fn offer_by<R: Threads + Sync>(
+    rt: &R,
+    alloc: Global,
+    threads: u32,
+    last: u32,
+    most: u64,
+) -> Result<bool, NoMemory>
+    requires { (0 < threads) × (threads ≤ 64) × (last < 65536) }
+{
+    let star = Star { last: last as u64 };
+    let root = Sig::of(alloc, &[0])?;
+    let (frontier, seat) = Frontier::new(alloc, &star, last + 1, threads, &root)?;
+    let callers = callers(alloc, &frontier, seat, threads)?;
+    let callers = worked(rt, alloc, &frontier, &star, most, callers);
+    let listed = joined(alloc, frontier, callers)?;
+    has_each_once(alloc, &listed, last as usize + 1)
 }
 
 #[test]
@@ -510,65 +567,14 @@ fn callers_halt(rt: HostRuntime) -> Result<(), Fail> {
 }
 
 #[test]
-fn two_threads_offer_the_same(rt: HostRuntime) -> Result<(), Fail> {
-    let star = Star { last: 100 };
-    let root = Sig::of(rt.alloc(), &[0])?;
-    let (frontier, own) = Frontier::new(rt.alloc(), &star, 200, 3, &root)?;
-    let (own, one) = frontier.split(own);
-    let (own, two) = frontier.split(own);
-    let own = Caller {
-        seat: own,
-        busy: false,
-    };
-    let mut callers = [
-        Caller {
-            seat: one,
-            busy: false,
-        },
-        Caller {
-            seat: two,
-            busy: false,
-        },
-    ];
-    work_all(&rt, rt.alloc(), &frontier, &star, &mut callers);
-    let listed = end(rt.alloc(), frontier, own)?;
-    assert_eq!(rt; has_each_once(&listed), true);
+fn threads_close_one_graph(rt: HostRuntime) -> Result<(), Fail> {
+    assert_eq!(rt; offer_by(&rt, rt.alloc(), 2, 100, 101)?, true);
+    assert_eq!(rt; offer_by(&rt, rt.alloc(), 4, 100, 101)?, true);
     Ok(())
 }
 
 #[test]
-fn threads_close_one_graph(rt: HostRuntime) -> Result<(), Fail> {
-    let star = Star { last: 100 };
-    let root = Sig::of(rt.alloc(), &[0])?;
-    let (frontier, own) = Frontier::new(rt.alloc(), &star, 200, 5, &root)?;
-    let (own, one) = frontier.split(own);
-    let (own, two) = frontier.split(own);
-    let (own, three) = frontier.split(own);
-    let (own, four) = frontier.split(own);
-    let own = Caller {
-        seat: own,
-        busy: false,
-    };
-    let mut callers = [
-        Caller {
-            seat: one,
-            busy: false,
-        },
-        Caller {
-            seat: two,
-            busy: false,
-        },
-        Caller {
-            seat: three,
-            busy: false,
-        },
-        Caller {
-            seat: four,
-            busy: false,
-        },
-    ];
-    work_all(&rt, rt.alloc(), &frontier, &star, &mut callers);
-    let listed = end(rt.alloc(), frontier, own)?;
-    assert_eq!(rt; has_each_once(&listed), true);
+fn eight_threads_offer_the_same(rt: HostRuntime) -> Result<(), Fail> {
+    assert_eq!(rt; offer_by(&rt, rt.alloc(), 8, 10_000, 1)?, true);
     Ok(())
 }

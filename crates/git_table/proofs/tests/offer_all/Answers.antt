@@ -1,7 +1,7 @@
-use Rattle.std.proofs.Common.{◌≡◌, ℕ, ◌+◌, ◌<◌, ◌≤◌, refl, sym, ap, ◌∙◌, subst, arith, true}
+use Rattle.std.proofs.Common.{◌+◌, refl, sym, ap, ◌∙◌, subst, arith, true}
 use Rattle.std.specs.List.{Contains}
 use Rattle.git_machine.specs.Signatures.{Signature}
-use Rattle.git_table.specs.Calls.{Sees, OfferTells}
+use Rattle.git_table.specs.Calls.{Sees}
 use Rattle.git_table.specs.Spokes.{spokes}
 use Rattle.git_table.proofs.Spokes.{spokes_has, spoke_of, told_caller, told_next, new_not_full, seen_not_full}
 use Rattle.git_table.proofs.tests.offer_all.Goals as goal

@@ -1,4 +1,4 @@
-use Rattle.std.proofs.Common.{◌≡◌, ℕ, ◌+◌, ◌<◌, List, [], ◌∷◌, true}
+use Rattle.std.proofs.Common.{ℕ, ◌+◌, ◌<◌, [], ◌∷◌, true}
 use Rattle.git_table.specs.Calls.{Sees}
 use Rattle.git_table.specs.Spokes.{IsCaller}
 use Rattle.git_table.proofs.tests.offer_all.Given as goal

@@ -1,4 +1,4 @@
-use Rattle.std.proofs.Common.{◌≡◌, ◌<◌, ℕ, length, sym, subst, ◌∙◌, arith, rules}
+use Rattle.std.proofs.Common.{◌<◌, length, sym, subst, arith, rules}
 use Rattle.git_table.specs.declared.tests.Caller.{Caller}
 use Rattle.git_table.specs.Spokes.{IsCaller}
 use Rattle.git_table.proofs.tests.work_all.Goals as goal
