@@ -1,15 +1,12 @@
 -- The rays of a cone among its generators, by its facets.
 use Rattle.std.proofs.Common.{◌≡◌, List, ℕ}
 use Rattle.git_lemmas.specs.Members.{Member}
-use Rattle.git_defs.proofs.Lengths.{OfLength}
-use Rattle.git_defs.specs.Cones.{Cut, IsEdge, IsPointed, OnRay}
+use Rattle.git_defs.specs.Cones.{Cut, IsEdge, OnRay}
 use Rattle.git_defs.specs.Vectors.{IsPrimitive, Vector, zero_vector}
 use Rattle.git_geometry.proofs.Cuts.{cut_closed}
 use Rattle.git_geometry.proofs.Edges.{dominator_on_edge, edge_of_alone}
-use Rattle.git_geometry.proofs.Minkowski.{generates_back}
 use Rattle.git_geometry.proofs.Primitive.{primitive_nonzero}
 use Rattle.git_geometry.proofs.Rays.{edge_on_ray, on_own_ray, on_ray_back, primitive_of_ray, ray_of_generator, some_times}
-use Rattle.git_geometry.proofs.Stages.{exact_generators}
 use Rattle.git_geometry.specs.Generators.{Generates, RayOf}
 use Rattle.git_geometry.specs.Stages.{Exact}
 use Rattle.git_geometry.specs.Zeros.{AreUndominated}
@@ -42,7 +39,3 @@ undominated_exact k A R S g primitive u = record { edges = edge; primitive = λ 
       record { one = o.one; member = kept x o.one e (as_member R o.member) o.on; on = o.on }
 
 -- generators of a cone: with the facets by double description, the rays by dropping
-pub rays_of_generators : (k : ℕ) (given facets rays : List Vector) → OfLength k given → ((v : Vector) → Member v given → IsPrimitive v)
-    → IsPointed k (Cut k given) → Exact k given facets → AreUndominated facets given rays → Exact k facets rays
-rays_of_generators k given facets rays have primitive pointed exact u =
-    undominated_exact k facets given rays (generates_back k given facets have (exact_generators k given pointed facets exact)) primitive u
