@@ -133,7 +133,7 @@ fn leaves_apart(upto: &[IVec], width: usize, r: &Ray, s: &Ray, t: &Ray) -> bool
 }
 
 /// Whether no third of these vectors has the zeros of both.
-pub fn is_adjacent(upto: &[IVec], width: usize, rays: &[Ray], r: &Ray, s: &Ray) -> bool
+pub(crate) fn is_adjacent(upto: &[IVec], width: usize, rays: &[Ray], r: &Ray, s: &Ray) -> bool
     requires rays { All (IsMarkedRay upto.now width) rays.now }
     requires r { IsMarkedRay upto.now width r.now }
     requires s { IsMarkedRay upto.now width s.now }
