@@ -1,7 +1,7 @@
 -- Masks as sets of places, and lists that are related one by one.
 use Rattle.std.proofs.Common.{◌≡◌, ◌+◌, ◌*◌, ◌<◌, ◌≤◌, ◌^◌, ◌%◌, ◌/◌, ◌∙◌, ◌⊎◌, ◌∷◌, ◌++◌, [], List, ap, arith, inl, inr, length, refl, subst, sym, ℕ, zero, suc, take, drop, get_or, true, false, Bool}
 use Rattle.std.specs.Int.Bits.{and_step}
-use Rattle.std.specs.Prelude.{◌-◌, if◌then◌else◌, IsTrue, ◌↔◌}
+use Rattle.std.specs.Prelude.{if◌then◌else◌, IsTrue, ◌↔◌}
 use Rattle.std.proofs.lemmas.List.{take_more, drop_more}
 use Rattle.std.specs.Int.RustNames.{bit_and}
 use Rattle.std.proofs.lemmas.Nat.Bits.{bit_at_and, bit_at-lt, same_from_bits, bit_at-zero}
@@ -23,13 +23,6 @@ half_within m h e = let s = and_step m h in omega (arith, e, s)
 
 odd_within : (m h : ℕ) → bit_and m h ≡ m → m % 2 ≡ 1 → h % 2 ≡ 1
 odd_within m h e odd = let s = and_step m h in omega (arith, e, s, odd)
-
-pub and_at_most : (m h : ℕ) → bit_and m h ≡ m → m ≤ h
-and_at_most m h e = below (suc m) m h (omega arith) e where
-  below : (n m h : ℕ) → m < n → bit_and m h ≡ m → m ≤ h
-  below zero m h l e = absurd (omega arith)
-  below (suc n) zero h l e = omega arith
-  below (suc n) (suc m) h l e = let half = below n (suc m / 2) (h / 2) (omega (arith, l)) (half_within (suc m) h e) in let s = and_step (suc m) h in omega (arith, half, e, s)
 
 pub face_more : (q : Vector) (qs : List Vector) (m : ℕ) (v : Vector) → Member v (face qs (m / 2)) → Member v (face (q ∷ qs) m)
 face_more q qs m v n = elim (odd_or_even m) [
@@ -166,19 +159,7 @@ number_more xs i d x h m = last_or (take i xs) (get_or xs i d) (subst (Member x)
   last_or (u ∷ us) v (inl e) = inl (inl e)
   last_or (u ∷ us) v (inr n) = elim (last_or us v n) [ inl l ↦ inl (inr l) | inr r ↦ inr r ]
 
-pub number_at : (xs : List ℕ) (i d : ℕ) → i < length xs → Member (get_or xs i d) xs
-number_at [] i d h = absurd (omega arith)
-number_at (x ∷ xs) zero d h = inl refl
-number_at (x ∷ xs) (suc i) d h = inr (number_at xs i d (omega arith))
-
 -- ---- one bit more, from the last on
-pub pow_grows : (j d : ℕ) → 2 ^ j ≤ 2 ^ (j + d)
-pow_grows j zero = let e : j + 0 ≡ j = omega arith in subst (λ (n : ℕ). 2 ^ j ≤ 2 ^ n) (sym e) (omega arith)
-pow_grows j (suc d) = let g = pow_grows j d in let e : j + suc d ≡ suc (j + d) = omega arith in subst (λ (n : ℕ). 2 ^ j ≤ 2 ^ n) (sym e) (omega (arith, g, doubled (j + d)))
-
-pub pow_below : (j n : ℕ) → j ≤ n → 2 ^ j ≤ 2 ^ n
-pow_below j n h = let e : j + (n - j) ≡ n = omega (arith, h) in subst (λ (m : ℕ). 2 ^ j ≤ 2 ^ m) e (pow_grows j (n - j))
-
 bit_case : (P : Vector → Type 0) (q : Vector) (mask new : ℕ) (bit : Bool) → new ≡ 2 * mask + (if bit then 1 else 0) → (IsTrue bit ↔ P q) → (((new % 2 ≡ 1) × P q) ⊎ ((new % 2 ≡ 0) × (P q → ⊥))) × (new / 2 ≡ mask)
 bit_case P q mask new true e is = (inl (omega (arith, e), is.0 refl), omega (arith, e))
 bit_case P q mask new false e is = (inr (omega (arith, e), λ p. let t = is.1 p in cc t), omega (arith, e))
