@@ -1,7 +1,6 @@
 -- A list of inequalities that is never wide cuts out a cone with at most 65,536 extreme vectors.
 use Rattle.std.proofs.Common.{◌≡◌, ℕ, zero, suc, ◌+◌, ◌*◌, ◌<◌, ◌≤◌, List, [], ◌∷◌, ◌++◌, length, take, get_or, refl, sym, ◌∙◌, ap, subst, arith, inl, inr}
 use Rattle.std.proofs.lemmas.List.{take_all}
-use Rattle.std.proofs.lemmas.List.Elements.{All-nil}
 use Rattle.std.proofs.Math.IntN.{ℤ, pos, pos-*ℤ-pos}
 use Rattle.std.specs.Prelude.{AllPairs, Contains}
 use Rattle.git_defs.specs.Vectors.{Vector, zero_vector, scale, AreIndependent, HasRank, IsPrimitive, Precedes}
@@ -33,16 +32,7 @@ use Rattle.git_stages.proofs.Prepares.{prepared_cut, prepared_length, prepared_r
 use Rattle.git_stages.proofs.Shorts.{within_or_not}
 use Rattle.git_dd.proofs.Finals.{split_to, split_from}
 use Rattle.git_geometry.proofs.Contained.{inside_at}
-
--- ---- the base of a split
-split_independent : (k : ℕ) (taken left base rest : List Vector) → IsSplit k taken left base rest → AreIndependent k taken → AreIndependent k base
-split_independent k taken [] base rest s free = subst (AreIndependent k) (sym s.0) free
-split_independent k taken (b ∷ left) base rest (inl s) free = split_independent k (taken ++ b ∷ []) left base rest s.1 s.0
-split_independent k taken (b ∷ left) base rest (inr s) free = split_independent k taken left base s.1 s.3 free
-
-none_independent : (k : ℕ) → AreIndependent k []
-none_independent k [] e z = All-nil (λ (c : ℤ). c ≡ pos 0)
-none_independent k (c ∷ cs) e z = absurd (omega (arith, e))
+use Rattle.git_stages.proofs.Decided.{split_independent, none_independent}
 
 nil_of : (us : List Vector) → length us ≡ 0 → us ≡ []
 nil_of [] e = refl

@@ -1,5 +1,5 @@
 -- Chambers are described by their rays and facets; weights are inside; which sets are legal.
-use Rattle.std.proofs.Common.{◌≡◌, ◌≢◌, ◌↔◌, ◌∙◌, ◌∷◌, [], ◌<◌, List, ap, arith, length, map, refl, subst, suc, sym, zero, ℕ}
+use Rattle.std.proofs.Common.{◌≡◌, ◌≢◌, ◌↔◌, ◌∙◌, ◌∷◌, [], ◌<◌, List, ap, arith, length, map, refl, subst, sym, ℕ}
 use Rattle.std.proofs.Math.IntN.{ℤ, negsuc, pos}
 use Rattle.std.proofs.lemmas.Int.{ints}
 use Rattle.std.specs.Prelude.{◌<ℤ◌, ◌≤ℤ◌, All, Contains}
@@ -20,7 +20,7 @@ use Rattle.git_machine.specs.Signatures.{Has, Signature}
 use Rattle.git_orbit.specs.Orbits.{Fan, IsFan}
 use Rattle.git_orbit.specs.Signatures.{InChamber, IsLegal, IsSignature, cone_in, facets_at}
 use Rattle.git_orbit.proofs.Signatures.{one_signature}
-use Rattle.git_orbit.proofs.Walls.{weight_in}
+use Rattle.git_orbit.proofs.Walls.{weight_in, positive_first}
 use Rattle.git_chamber.specs.Views.{FanChamber}
 use Rattle.git_chamber.specs.Chambers.{IsBehind, IsChamber, IsGood, crossing}
 use Rattle.git_chamber.specs.Nexts.{crossing_ends, facets_have, rays_have}
@@ -100,11 +100,6 @@ inner_leads_on fan sig next rays facets weight n legal chamber in_facets behind 
     }
 
 -- ---- the sum of independent vectors
-positive_first : (z : ℤ) (zs : List ℤ) → pos 0 <ℤ z → first_sign (z ∷ zs) ≢ negsuc 0
-positive_first (pos zero) zs h e = absurd (omega (arith, ints, h))
-positive_first (pos (suc n)) zs h e = absurd (omega (arith, ints, e))
-positive_first (negsuc n) zs h e = absurd (omega (arith, ints, h))
-
 not_negative_first : (z : ℤ) (zs : List ℤ) → first_sign (z ∷ zs) ≢ negsuc 0 → pos 0 ≤ℤ z
 not_negative_first (pos n) zs h = omega (arith, ints)
 not_negative_first (negsuc n) zs h = absurd (h refl)

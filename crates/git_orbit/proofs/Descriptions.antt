@@ -1,7 +1,6 @@
 -- Inequalities that are never wide have short extreme vectors, and generators that are never wide have a description.
 use Rattle.std.proofs.Common.{◌≡◌, ◌∙◌, ◌+◌, ◌*◌, ◌<◌, ◌≤◌, ◌∷◌, ◌++◌, [], All, List, ap, append-nil, arith, drop, inl, inr, length, length-append, length-drop, length-take, refl, subst, suc, sym, take, zero, ℕ}
 use Rattle.std.proofs.Math.IntN.{pos, pos-*ℤ-pos, ℤ}
-use Rattle.std.proofs.lemmas.List.Elements.{All-nil}
 use Rattle.std.proofs.lemmas.List.{take_all}
 use Rattle.std.specs.Prelude.{Contains}
 use Rattle.git_canon.proofs.Cones.{described}
@@ -30,11 +29,12 @@ use Rattle.git_stages.proofs.Exist.{lists_exist, prepared_exists, rays_exist}
 use Rattle.git_stages.proofs.Prepares.{prepared_cut, prepared_length, prepared_rank, prepared_short}
 use Rattle.git_stages.proofs.Replaced.{replaced_size}
 use Rattle.git_stages.proofs.Shorts.{not_large, short_length}
-use Rattle.git_stages.specs.Eliminations.{AreEliminated, IsSplit}
+use Rattle.git_stages.specs.Eliminations.{AreEliminated}
 use Rattle.git_stages.specs.Prepared.{IsAlong}
 use Rattle.git_stages.specs.Short.{IsShort}
 use Rattle.git_stages.specs.Wide.{IsLarge, NeverWide}
 use Rattle.git_geometry.proofs.Contained.{inside_at}
+use Rattle.git_stages.proofs.Decided.{split_independent, none_independent}
 
 -- ---- a primitive vector along a short one is short
 along_short : (k : ℕ) (given : List Vector) (x : Vector) → All (IsShort k) given → length x ≡ k → IsPrimitive x → RayOf given x → IsShort k x
@@ -59,16 +59,6 @@ along_short k given x short long primitive ray =
           } in
           subst (IsShort k) (sym (primitive_of_ray k q.vector x is_short.entries some q.primitive primitive on)) is_short)
     ]
-
--- ---- the base of a split
-split_independent : (k : ℕ) (taken left base rest : List Vector) → IsSplit k taken left base rest → AreIndependent k taken → AreIndependent k base
-split_independent k taken [] base rest s free = subst (AreIndependent k) (sym s.0) free
-split_independent k taken (b ∷ left) base rest (inl s) free = split_independent k (taken ++ b ∷ []) left base rest s.1 s.0
-split_independent k taken (b ∷ left) base rest (inr s) free = split_independent k taken left base s.1 s.3 free
-
-none_independent : (k : ℕ) → AreIndependent k []
-none_independent k [] e z = All-nil (λ (c : ℤ). c ≡ pos 0)
-none_independent k (c ∷ cs) e z = absurd (omega (arith, e))
 
 -- k vectors are left or were taken
 eliminated_size : (k : ℕ) (base : List Vector) (j : ℕ) (free rays : List Vector) → AreEliminated k base j free rays → length free + j ≡ k

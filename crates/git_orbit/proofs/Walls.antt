@@ -59,7 +59,7 @@ walls_inside fan germ sig walls is ends signature all =
         normal_at fan.k is.columns (Contains is.masks) fan.list is.cones w.0 ((signature.each w.0).0 w.1).0 n (contains_member n (facets_at fan w.0) w.2)
 
 -- ---- the first germ
-positive_first : (z : ℤ) (zs : List ℤ) → pos 0 <ℤ z → first_sign (z ∷ zs) ≢ negsuc 0
+pub positive_first : (z : ℤ) (zs : List ℤ) → pos 0 <ℤ z → first_sign (z ∷ zs) ≢ negsuc 0
 positive_first (pos zero) zs h e = absurd (omega (arith, ints, h))
 positive_first (pos (suc n)) zs h e = absurd (omega (arith, ints, e))
 positive_first (negsuc n) zs h e = absurd (omega (arith, ints, h))

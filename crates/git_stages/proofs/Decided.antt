@@ -40,7 +40,7 @@ split_independent k taken [] base rest s free = subst (AreIndependent k) (sym s.
 split_independent k taken (b ∷ left) base rest (inl s) free = split_independent k (taken ++ b ∷ []) left base rest s.1 s.0
 split_independent k taken (b ∷ left) base rest (inr s) free = split_independent k taken left base s.1 s.3 free
 
-none_independent : (k : ℕ) → AreIndependent k []
+pub none_independent : (k : ℕ) → AreIndependent k []
 none_independent k [] e z = All-nil (λ (c : ℤ). c ≡ pos 0)
 none_independent k (c ∷ cs) e z = absurd (omega (arith, e))
 
