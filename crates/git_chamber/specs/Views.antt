@@ -3,6 +3,7 @@ use Rattle.std.specs.Prelude.{ℕ, ◌-◌, ◌≤◌, ◌^◌, List, length, Al
 use Rattle.git_defs.specs.Vectors.{Vector}
 use Rattle.git_machine.specs.Signatures.{Signature}
 use Rattle.git_ints.specs.Padded.{AreWithin}
+use Rattle.git_limits.specs.declared.TheConstants.{ENTRY, MANY}
 use Rattle.git_grading.specs.Gradings.{IsGrading}
 use Rattle.git_orbit.specs.Orbits.{AreFaces, AreOrbitCones, Fan}
 use Rattle.git_orbit.specs.declared.orbit.OrbitCone.{OrbitCone}
@@ -16,9 +17,9 @@ pub record FanChamber : Type 0 where
 
 -- the sizes of every chamber: at most 65,536 rays, and no entry above 2^40 in absolute value
 pub record IsSized (rays facets : List Vector) : Type 0 where
-  pub few : length rays ≤ 65536
-  pub rays_small : All (AreWithin (2 ^ 40)) rays
-  pub facets_small : All (AreWithin (2 ^ 40)) facets
+  pub few : length rays ≤ MANY
+  pub rays_small : All (AreWithin ENTRY) rays
+  pub facets_small : All (AreWithin ENTRY) facets
 
 -- a graph of signatures: the cones, and the columns of the grading
 pub record Graph : Type 0 where

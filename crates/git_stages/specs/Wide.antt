@@ -1,7 +1,8 @@
 -- When a list of inequalities is wide: the first stage that is, and its evidence.
-use Rattle.std.specs.Prelude.{◌⊎◌, ℕ, ◌<◌, ◌^◌, List, [], length, Contains, Option, Some, None}
+use Rattle.std.specs.Prelude.{◌⊎◌, ℕ, ◌<◌, List, [], length, Contains, Option, Some, None}
 use Rattle.git_defs.specs.Vectors.{Vector, Precedes}
 use Rattle.git_ints.specs.Padded.{AreWithin}
+use Rattle.git_limits.specs.declared.TheConstants.{ENTRY, MANY}
 use Rattle.git_stages.specs.Eliminations.{IsSplit}
 use Rattle.git_stages.specs.Prepared.{IsPrepared}
 use Rattle.git_stages.specs.Stages.{IsStage}
@@ -10,11 +11,11 @@ use Rattle.git_stages.specs.declared.wide.WideWhat.TheVariants.{Entry, Many}
 
 -- some entry is above 2^40 in absolute value
 abbrev pub IsLarge : Vector → Type 0
-IsLarge v = AreWithin (2 ^ 40) v → ⊥
+IsLarge v = AreWithin ENTRY v → ⊥
 
 -- some vector is large, or there are more than 65,536 after the elimination
 abbrev pub IsWideStage : ℕ → ℕ → List Vector → Type 0
-IsWideStage k j vs = ((v : Vector) × Contains vs v × IsLarge v) ⊎ ((k < j) × (65536 < length vs))
+IsWideStage k j vs = ((v : Vector) × Contains vs v × IsLarge v) ⊎ ((k < j) × (MANY < length vs))
 
 -- the least of the large vectors
 pub record IsLeastLarge (vs : List Vector) (v : Vector) : Type 0 where
