@@ -1,29 +1,305 @@
 //! Chambers worked by hand, and those of planes in four-space as the literature has them.
-ghost use Rattle.std.specs.Prelude.{◌≡◌, ◌≤◌, ◌-◌, ◌^◌, ◌<◌, IfOk, IfSome, Contains, length};
+ghost use Rattle.std.specs.Prelude.{◌≡◌, ◌≤◌, ◌-◌, ◌^◌, ◌<◌, IfOk, IfSome, IsTrue, Contains, length};
 ghost use Rattle.git_grading.specs.Gradings.{IsMatrix};
+ghost use Rattle.git_ints.specs.Padded.{AreWithin};
 ghost use Rattle.git_orbit.specs.Orbits.{AreFaces};
 ghost use Rattle.git_orbit.specs.Signatures.{IsLegal};
 ghost use Rattle.git_chamber.specs.Views.{Graph};
 
 use super::*;
-use git_base::NoMemory;
 use git_grading::Grading;
 use git_ints::IVec;
 use git_machine::{Sig, Successors};
 use git_orbit::Cones;
-use git_stages::{add, are_short};
+use git_stages::{WideAt, WideWhat, add, are_short};
 use std::alloc::Global;
 use std::test::Fail;
+
+/// Vectors by their entries.
+type Rows = &'static [&'static [i128]];
+
+/// A matrix of `k` rows by its columns, and which of its faces have cones where they are full; of none, all.
+struct Given {
+    k: usize,
+    columns: Rows,
+    masks: &'static [u16],
+}
+
+/// The chamber at the end of a way over facets with these normals, from the first chamber. Its signature
+/// has one word.
+struct End {
+    way: Rows,
+    word: u64,
+    rays: Rows,
+    facets: Rows,
+    weight: &'static [i128],
+}
+
+/// A matrix, the number of its cones, and some of its chambers.
+struct Case {
+    given: Given,
+    cones: usize,
+    ends: &'static [End],
+}
+
+/// Three columns of the plane. The first weight lies on a wall, and all three cones hold the wall.
+const TWO_CHAMBERS: Case = Case {
+    given: Given {
+        k: 2,
+        columns: &[&[1, 0], &[1, 1], &[0, 1]],
+        masks: &[],
+    },
+    cones: 3,
+    ends: &[
+        End {
+            way: &[],
+            word: 5,
+            rays: &[&[1, 0], &[1, 1]],
+            facets: &[&[0, 1], &[1, -1]],
+            weight: &[2, 1],
+        },
+        End {
+            way: &[&[1, -1]],
+            word: 3,
+            rays: &[&[0, 1], &[1, 1]],
+            facets: &[&[-1, 1], &[1, 0]],
+            weight: &[1, 2],
+        },
+        End {
+            way: &[&[1, -1], &[-1, 1]],
+            word: 5,
+            rays: &[&[1, 0], &[1, 1]],
+            facets: &[&[0, 1], &[1, -1]],
+            weight: &[2, 1],
+        },
+    ],
+};
+
+/// Between columns that are far out a chamber is narrow: a weight a little beyond the wall would miss it.
+const NARROW: Case = Case {
+    given: Given {
+        k: 2,
+        columns: &[&[0, 1], &[999, 1], &[1000, 1], &[1, 0]],
+        masks: &[],
+    },
+    cones: 6,
+    ends: &[
+        End {
+            way: &[],
+            word: 41,
+            rays: &[&[0, 1], &[999, 1]],
+            facets: &[&[-1, 999], &[1, 0]],
+            weight: &[999, 2],
+        },
+        End {
+            way: &[&[-1, 999]],
+            word: 27,
+            rays: &[&[999, 1], &[1000, 1]],
+            facets: &[&[-1, 1000], &[1, -999]],
+            weight: &[1999, 2],
+        },
+    ],
+};
+
+/// Planes in four-space: the first chamber, and the one behind its three inner walls.
+const PLANES: Case = Case {
+    given: Given {
+        k: 4,
+        columns: &[
+            &[1, 1, 0, 0],
+            &[1, 0, 1, 0],
+            &[1, 0, 0, 1],
+            &[0, 1, 1, 0],
+            &[0, 1, 0, 1],
+            &[0, 0, 1, 1],
+        ],
+        masks: &[63, 62, 61, 59, 55, 47, 31],
+    },
+    cones: 7,
+    ends: &[
+        End {
+            way: &[],
+            word: 113,
+            rays: &[&[1, 0, 0, 1], &[1, 0, 1, 0], &[1, 1, 0, 0], &[1, 1, 1, 1]],
+            facets: &[
+                &[-1, 1, 1, 1],
+                &[1, -1, -1, 1],
+                &[1, -1, 1, -1],
+                &[1, 1, -1, -1],
+            ],
+            weight: &[4, 2, 2, 2],
+        },
+        End {
+            way: &[&[1, -1, -1, 1], &[1, -1, 1, -1], &[1, 1, -1, -1]],
+            word: 15,
+            rays: &[&[0, 0, 1, 1], &[0, 1, 0, 1], &[0, 1, 1, 0], &[1, 1, 1, 1]],
+            facets: &[
+                &[-1, -1, 1, 1],
+                &[-1, 1, -1, 1],
+                &[-1, 1, 1, -1],
+                &[1, 0, 0, 0],
+            ],
+            weight: &[1, 3, 3, 3],
+        },
+    ],
+};
+
+/// One cone over a square: four facets in three-space.
+const SQUARE: Case = Case {
+    given: Given {
+        k: 3,
+        columns: &[&[0, 0, 1], &[1, 0, 1], &[0, 1, 1], &[1, 1, 1]],
+        masks: &[15],
+    },
+    cones: 1,
+    ends: &[End {
+        way: &[],
+        word: 1,
+        rays: &[&[0, 0, 1], &[0, 1, 1], &[1, 0, 1], &[1, 1, 1]],
+        facets: &[&[-1, 0, 1], &[0, -1, 1], &[0, 1, 0], &[1, 0, 0]],
+        weight: &[2, 2, 4],
+    }],
+};
+
+/// One row: one chamber.
+const ONE_ROW: Case = Case {
+    given: Given {
+        k: 1,
+        columns: &[&[2], &[3]],
+        masks: &[],
+    },
+    cones: 1,
+    ends: &[End {
+        way: &[],
+        word: 1,
+        rays: &[&[1]],
+        facets: &[&[1]],
+        weight: &[1],
+    }],
+};
+
+/// A reducible ideal: two chambers that overlap, each behind a wall of the other.
+const OVERLAPPING: Case = Case {
+    given: Given {
+        k: 2,
+        columns: &[&[9, -6], &[1, 0], &[0, 1], &[-2, 3]],
+        masks: &[15, 10, 9, 5],
+    },
+    cones: 3,
+    ends: &[
+        End {
+            way: &[],
+            word: 5,
+            rays: &[&[0, 1], &[3, -2]],
+            facets: &[&[1, 0], &[2, 3]],
+            weight: &[3, -1],
+        },
+        End {
+            way: &[&[1, 0]],
+            word: 3,
+            rays: &[&[-2, 3], &[1, 0]],
+            facets: &[&[0, 1], &[3, 2]],
+            weight: &[-1, 3],
+        },
+    ],
+};
+
+/// The quadrant's weight (1, 1) lies in a cone that doesn't hold the quadrant.
+const CROSSED: Given = Given {
+    k: 2,
+    columns: &[&[2, 0], &[0, 2], &[1, 1]],
+    masks: &[7, 6],
+};
+
+/// One cone with four facets, in order, of which the second and the third meet in a ray with an entry past 2^40.
+const WIDE: Given = Given {
+    k: 3,
+    columns: &[
+        &[-601, 551, 986],
+        &[-932, -997, 924],
+        &[933, -673, 879],
+        &[974, 748, 906],
+    ],
+    masks: &[15],
+};
+
+/// The vectors with these entries.
+fn vectors(alloc: Global, rows: Rows) -> Result<Vec<IVec>, Fail> {
+    let mut out = Vec::new(alloc);
+    for row in rows {
+        if row.is_empty() || row.len() > 6 {
+            return Err(Fail::new("no vector has so many entries"));
+        }
+        add(&mut out, IVec::of(row))?;
+    }
+    Ok(out)
+}
+
+/// Whether these are the vectors with these entries.
+fn are_vectors(list: &[IVec], rows: Rows) -> bool {
+    for (v, row) in list.iter().zip(rows) {
+        if v.as_slice() != *row {
+            return false;
+        }
+    }
+    list.len() == rows.len()
+}
+
+/// Whether all entries are from -1000 to 1000.
+fn are_within(entries: &[i128]) -> bool
+    ensures { IsTrue result → AreWithin 1000 entries.now }
+{
+    for entry in entries {
+        if entry.unsigned_abs() > 1000 {
+            return false;
+        }
+    }
+    true
+}
+
+/// Whether these are the columns of a matrix of `k` rows.
+fn is_matrix(k: usize, columns: &[IVec]) -> bool
+    ensures { IsTrue result → IsMatrix k columns.now }
+{
+    if k == 0 || k > 6 || columns.is_empty() || columns.len() > 16 {
+        return false;
+    }
+    for column in columns {
+        if column.len() != k || !are_within(column.as_slice()) {
+            return false;
+        }
+    }
+    true
+}
+
+fn grading(alloc: Global, given: &Given) -> Result<Grading, Fail> {
+    let columns = vectors(alloc, given.columns)?;
+    if !is_matrix(given.k, &columns) {
+        return Err(Fail::new("not a matrix"));
+    }
+    Ok(Grading::of(alloc, given.k, columns)?)
+}
+
+/// The number of faces, where it is of 16 bits.
+fn face_count(g: &Grading) -> Option<u16>
+    ensures { IfSome result (λ count. count ≡ 2 ^ length g.now.columns) }
+{
+    if g.r() > 15 {
+        return None;
+    }
+    Some(1 << g.r())
+}
 
 /// Whether the mask is one of these; of none, all are.
 fn is_listed(masks: &[u16], mask: u16) -> bool {
     masks.is_empty() || masks.contains(&mask)
 }
 
-/// Those of these faces that are full, descending.
-fn full_masks(alloc: Global, g: &Grading, masks: &[u16], count: u16) -> Result<Vec<u16>, NoMemory>
-    requires { count ≤ 2 ^ length g.now.columns }
-    ensures { IfOk result (λ v. AreFaces g.now.k g.now.columns v.items) }
+/// Those of these faces that are full, descending. Fails where the one of all columns isn't among them.
+fn full_masks(alloc: Global, g: &Grading, masks: &[u16], count: u16) -> Result<Vec<u16>, Fail>
+    requires { count ≡ 2 ^ length g.now.columns }
+    ensures faces { IfOk result (λ v. AreFaces g.now.k g.now.columns v.items) }
+    ensures whole { IfOk result (λ v. Contains v.items (count - 1)) }
 {
     let mut out = Vec::new(alloc);
     for i in 0..count {
@@ -32,88 +308,69 @@ fn full_masks(alloc: Global, g: &Grading, masks: &[u16], count: u16) -> Result<V
             add(&mut out, mask)?;
         }
     }
+    if out.is_empty() || out[0] != count - 1 {
+        return Err(Fail::new("the columns are not full"));
+    }
     Ok(out)
 }
 
-/// The graph of a matrix with the cones of those of these faces that are full. There are `count` faces.
-fn graph(
-    alloc: Global,
-    k: usize,
-    columns: Vec<IVec>,
-    masks: &[u16],
-    count: u16,
-) -> Result<Option<FanGraph>, Fail>
-    requires matrix { IsMatrix k columns.items }
-    requires count { count ≡ 2 ^ length columns.items }
-{
-    let grading = Grading::of(alloc, k, columns)?;
-    let faces = full_masks(alloc, &grading, masks, count)?;
-    if !faces.contains(&(count - 1)) {
-        return Ok(None);
-    }
+/// The graph of the cones.
+fn graph(alloc: Global, given: &Given) -> Result<FanGraph, Fail> {
+    let grading = grading(alloc, given)?;
+    let Some(count) = face_count(&grading) else {
+        return Err(Fail::new("too many columns"));
+    };
+    let faces = full_masks(alloc, &grading, given.masks, count)?;
     let cones = Cones::new(alloc, &grading, &faces)?;
-    Ok(Some(FanGraph::new(cones, &grading)))
+    Ok(FanGraph::new(cones, &grading))
 }
 
-/// The place of a vector.
-fn place(list: &[IVec], v: &IVec) -> Option<usize>
+/// The place of the vector with these entries.
+fn place(list: &[IVec], row: &[i128]) -> Option<usize>
     ensures { IfSome result (λ i. i < length list.now) }
 {
-    list.iter().position(|u| *u == *v)
+    list.iter().position(|v| v.as_slice() == row)
 }
 
-/// The signature behind the facet with this normal, if there is one.
-fn step(alloc: Global, cones: &Cones, sig: &Sig, n: &IVec) -> Result<Option<Sig>, Fail>
+/// The signature behind the facet with this normal.
+fn step(alloc: Global, cones: &Cones, sig: &Sig, normal: &[i128]) -> Result<Sig, Fail>
     requires { IsLegal cones.now sig.now }
-    ensures { IfOk result (λ o. IfSome o (λ s. IsLegal cones.now s)) }
+    ensures { IfOk result (λ s. IsLegal cones.now s) }
 {
     let c = chamber(alloc, cones, sig)?;
-    let Some(i) = place(&c.facets, n) else {
-        return Ok(None);
+    let Some(i) = place(&c.facets, normal) else {
+        return Err(Fail::new("no facet has this normal"));
     };
     match cross(alloc, cones, &c, i)? {
-        Side::Inner(next) => Ok(Some(next)),
-        Side::Boundary(_) => Ok(None),
+        Side::Inner(next) => Ok(next),
+        Side::Boundary(_) => Err(Fail::new("nothing lies behind the facet")),
     }
 }
 
 /// The signature at the end of a way over facets with these normals, from the first one.
-fn end_of(alloc: Global, graph: &FanGraph, way: &[IVec]) -> Result<Option<Sig>, Fail>
-    ensures { IfOk result (λ o. IfSome o (λ s. IsLegal graph.now.fan s)) }
+fn end_of(alloc: Global, graph: &FanGraph, way: Rows) -> Result<Sig, Fail>
+    ensures { IfOk result (λ s. IsLegal graph.now.fan s) }
 {
     let mut sig = graph.first(alloc)?;
-    for n in way {
-        match step(alloc, graph.cones(), &sig, n)? {
-            Some(next) => sig = next,
-            None => return Ok(None),
-        }
+    for normal in way {
+        sig = step(alloc, graph.cones(), &sig, normal)?;
     }
-    Ok(Some(sig))
+    Ok(sig)
 }
 
-/// Whether a way ends at the chamber with this signature of one word, these rays and facets and this weight.
-fn ends_at(
-    alloc: Global,
-    graph: &FanGraph,
-    way: &[IVec],
-    word: u64,
-    rays: &[IVec],
-    facets: &[IVec],
-    weight: IVec,
-) -> Result<bool, Fail> {
-    let Some(sig) = end_of(alloc, graph, way)? else {
-        return Ok(false);
-    };
+/// Whether a way ends at its chamber.
+fn ends(alloc: Global, graph: &FanGraph, end: &End) -> Result<bool, Fail> {
+    let sig = end_of(alloc, graph, end.way)?;
     let c = chamber(alloc, graph.cones(), &sig)?;
     Ok(
-        c.sig.words() == [word].as_slice()
-            && c.rays.as_slice() == rays
-            && c.facets.as_slice() == facets
-            && c.weight == weight,
+        c.sig.words() == [end.word].as_slice()
+            && are_vectors(&c.rays, end.rays)
+            && are_vectors(&c.facets, end.facets)
+            && c.weight.as_slice() == end.weight,
     )
 }
 
-/// Whether nothing lies behind the walls of a chamber with these rays, each being its own evidence.
+/// Whether nothing lies behind these walls of a chamber with these rays, each being its own evidence.
 fn all_boundary(
     alloc: Global,
     cones: &Cones,
@@ -123,10 +380,10 @@ fn all_boundary(
     if !are_short(cones.k, rays) || !are_short(cones.k, normals) || rays.len() > 65536 {
         return Ok(false);
     }
-    for n in normals {
-        match behind(alloc, cones, rays, n)? {
+    for normal in normals {
+        match behind(alloc, cones, rays, normal)? {
             Side::Boundary(m) => {
-                if m != *n {
+                if m != *normal {
                     return Ok(false);
                 }
             }
@@ -136,182 +393,62 @@ fn all_boundary(
     Ok(true)
 }
 
-fn plane(x: i128, y: i128) -> IVec {
-    IVec::of(&[x, y])
+/// Why the first signature, that of the first cone alone, has no chamber.
+fn fault(alloc: Global, given: &Given) -> Result<ChamberFault, Fail> {
+    let graph = graph(alloc, given)?;
+    let sig = graph.first(alloc)?;
+    if sig.words() != [1].as_slice() {
+        return Err(Fail::new("another signature"));
+    }
+    match chamber(alloc, graph.cones(), &sig) {
+        Ok(_) => Err(Fail::new("a chamber")),
+        Err(fault) => Ok(fault),
+    }
 }
 
-fn space(x: i128, y: i128, z: i128) -> IVec {
-    IVec::of(&[x, y, z])
-}
-
-fn four(x: i128, y: i128, z: i128, w: i128) -> IVec {
-    IVec::of(&[x, y, z, w])
-}
-
-/// The first weight lies on a wall, and all three cones hold the wall.
 #[test]
-fn two_chambers(rt: HostRuntime) -> Result<(), Fail> {
+fn ways_end_at_their_chambers(rt: HostRuntime) -> Result<(), Fail> {
     let alloc = rt.alloc();
-    let columns = [IVec::of(&[1, 0]), IVec::of(&[1, 1]), IVec::of(&[0, 1])].to_vec(alloc)?;
-    let Some(graph) = graph(alloc, 2, columns, &[], 8)? else {
-        return Ok(assert!(rt; false));
-    };
-    let rays = [plane(1, 0), plane(1, 1)];
-    let facets = [plane(0, 1), plane(1, -1)];
-    assert!(rt; ends_at(alloc, &graph, &[], 5, &rays, &facets, plane(2, 1))?);
-    let rays = [plane(0, 1), plane(1, 1)];
-    let facets = [plane(-1, 1), plane(1, 0)];
-    assert!(rt;
-        ends_at(
-            alloc,
-            &graph,
-            &[plane(1, -1)],
-            3,
-            &rays,
-            &facets,
-            plane(1, 2)
-        )?
-    );
-    let back = [plane(1, -1), plane(-1, 1)];
-    let rays = [plane(1, 0), plane(1, 1)];
-    let facets = [plane(0, 1), plane(1, -1)];
-    assert!(rt; ends_at(alloc, &graph, &back, 5, &rays, &facets, plane(2, 1))?);
+    for case in &[TWO_CHAMBERS, NARROW, PLANES, SQUARE, ONE_ROW, OVERLAPPING] {
+        let graph = graph(alloc, &case.given)?;
+        assert_eq!(rt; graph.cones().list.len(), case.cones);
+        for end in case.ends {
+            assert!(rt;
+                ends(alloc, &graph, end)?,
+                "{:?} of {:?}",
+                end.way,
+                case.given.columns
+            );
+        }
+    }
     Ok(())
 }
 
-/// Between columns that are far out a chamber is narrow: a weight a little beyond the wall would miss it.
+/// Each facet of the square's chamber is boundary, with a facet of the cone for it.
 #[test]
-fn narrow_chambers(rt: HostRuntime) -> Result<(), Fail> {
+fn square_has_no_neighbours(rt: HostRuntime) -> Result<(), Fail> {
     let alloc = rt.alloc();
-    let columns = [
-        IVec::of(&[0, 1]),
-        IVec::of(&[999, 1]),
-        IVec::of(&[1000, 1]),
-        IVec::of(&[1, 0]),
-    ]
-    .to_vec(alloc)?;
-    let Some(graph) = graph(alloc, 2, columns, &[], 16)? else {
-        return Ok(assert!(rt; false));
-    };
-    let Some(first) = end_of(alloc, &graph, &[])? else {
-        return Ok(assert!(rt; false));
-    };
-    let c = chamber(alloc, graph.cones(), &first)?;
-    assert_eq!(rt; c.rays.as_slice(), [plane(0, 1), plane(999, 1)].as_slice());
-    let Some(middle) = end_of(alloc, &graph, &[plane(-1, 999)])? else {
-        return Ok(assert!(rt; false));
-    };
-    let c = chamber(alloc, graph.cones(), &middle)?;
-    assert_eq!(rt;
-        c.rays.as_slice(),
-        [plane(999, 1), plane(1000, 1)].as_slice()
-    );
-    assert_eq!(rt;
-        c.facets.as_slice(),
-        [plane(-1, 1000), plane(1, -999)].as_slice()
-    );
-    assert_eq!(rt; c.weight, plane(1999, 2));
-    Ok(())
-}
-
-/// Planes in four-space: the first chamber, and the one behind its three inner walls.
-#[test]
-fn planes_in_four_space(rt: HostRuntime) -> Result<(), Fail> {
-    let alloc = rt.alloc();
-    let columns = [
-        IVec::of(&[1, 1, 0, 0]),
-        IVec::of(&[1, 0, 1, 0]),
-        IVec::of(&[1, 0, 0, 1]),
-        IVec::of(&[0, 1, 1, 0]),
-        IVec::of(&[0, 1, 0, 1]),
-        IVec::of(&[0, 0, 1, 1]),
-    ]
-    .to_vec(alloc)?;
-    let masks = [63, 62, 61, 59, 55, 47, 31];
-    let Some(graph) = graph(alloc, 4, columns, &masks, 64)? else {
-        return Ok(assert!(rt; false));
-    };
-    assert_eq!(rt; graph.cones().list.len(), 7);
-    let way = [four(1, -1, -1, 1), four(1, -1, 1, -1), four(1, 1, -1, -1)];
-    let rays = [
-        four(1, 0, 0, 1),
-        four(1, 0, 1, 0),
-        four(1, 1, 0, 0),
-        four(1, 1, 1, 1),
-    ];
-    let facets = [four(-1, 1, 1, 1), way[0], way[1], way[2]];
-    assert!(rt; ends_at(alloc, &graph, &[], 113, &rays, &facets, four(4, 2, 2, 2))?);
-    let rays = [
-        four(0, 0, 1, 1),
-        four(0, 1, 0, 1),
-        four(0, 1, 1, 0),
-        four(1, 1, 1, 1),
-    ];
-    let facets = [
-        four(-1, -1, 1, 1),
-        four(-1, 1, -1, 1),
-        four(-1, 1, 1, -1),
-        four(1, 0, 0, 0),
-    ];
-    assert!(rt; ends_at(alloc, &graph, &way, 15, &rays, &facets, four(1, 3, 3, 3))?);
-    Ok(())
-}
-
-/// One cone over a square: four facets in three-space, all boundary, each with a facet of the cone for it.
-#[test]
-fn more_facets_than_rank(rt: HostRuntime) -> Result<(), Fail> {
-    let alloc = rt.alloc();
-    let columns = [
-        IVec::of(&[0, 0, 1]),
-        IVec::of(&[1, 0, 1]),
-        IVec::of(&[0, 1, 1]),
-        IVec::of(&[1, 1, 1]),
-    ]
-    .to_vec(alloc)?;
-    let Some(graph) = graph(alloc, 3, columns, &[15], 16)? else {
-        return Ok(assert!(rt; false));
-    };
-    let rays = [
-        space(0, 0, 1),
-        space(0, 1, 1),
-        space(1, 0, 1),
-        space(1, 1, 1),
-    ];
-    let facets = [
-        space(-1, 0, 1),
-        space(0, -1, 1),
-        space(0, 1, 0),
-        space(1, 0, 0),
-    ];
-    assert!(rt; ends_at(alloc, &graph, &[], 1, &rays, &facets, space(2, 2, 4))?);
+    let graph = graph(alloc, &SQUARE.given)?;
+    let end = &SQUARE.ends[0];
+    let rays = vectors(alloc, end.rays)?;
+    let facets = vectors(alloc, end.facets)?;
     assert!(rt; all_boundary(alloc, graph.cones(), &rays, &facets)?);
     let sig = graph.first(alloc)?;
-    let expansion = graph.expand(alloc, &sig)?;
-    assert_eq!(rt; expansion.next.len(), 0);
+    assert_eq!(rt; graph.expand(alloc, &sig)?.next.len(), 0);
     assert_eq!(rt; graph.r(), 4);
     assert_eq!(rt; graph.width(), 1);
     Ok(())
 }
 
-/// One row: one chamber, and nothing behind its one facet.
+/// Nothing lies behind the one facet of one row.
 #[test]
-fn one_row(rt: HostRuntime) -> Result<(), Fail> {
+fn one_row_has_one_boundary(rt: HostRuntime) -> Result<(), Fail> {
     let alloc = rt.alloc();
-    let columns = [IVec::of(&[2]), IVec::of(&[3])].to_vec(alloc)?;
-    let Some(graph) = graph(alloc, 1, columns, &[], 4)? else {
-        return Ok(assert!(rt; false));
-    };
-    let grading = Grading::of(alloc, 1, [IVec::of(&[2]), IVec::of(&[3])].to_vec(alloc)?)?;
-    assert_eq!(rt;
-        first_germ(&grading).as_slice(),
-        [IVec::of(&[5]), IVec::of(&[1])].as_slice()
-    );
-    let one = [IVec::of(&[1])];
-    assert!(rt; ends_at(alloc, &graph, &[], 1, &one, &one, IVec::of(&[1]))?);
+    let graph = graph(alloc, &ONE_ROW.given)?;
     let sig = graph.first(alloc)?;
     let c = chamber(alloc, graph.cones(), &sig)?;
-    let Some(facet) = place(&c.facets, &IVec::of(&[1])) else {
-        return Ok(assert!(rt; false));
+    let Some(facet) = place(&c.facets, &[1]) else {
+        return Err(Fail::new("no facet"));
     };
     match cross(alloc, graph.cones(), &c, facet)? {
         Side::Boundary(m) => assert_eq!(rt; m, IVec::of(&[1])),
@@ -320,53 +457,26 @@ fn one_row(rt: HostRuntime) -> Result<(), Fail> {
     Ok(())
 }
 
-/// The quadrant's weight (1, 1) lies in a cone that doesn't hold the quadrant.
 #[test]
-fn crossed_weight(rt: HostRuntime) -> Result<(), Fail> {
+fn first_germs_begin_with_the_sum(rt: HostRuntime) -> Result<(), Fail> {
     let alloc = rt.alloc();
-    let columns = [IVec::of(&[2, 0]), IVec::of(&[0, 2]), IVec::of(&[1, 1])].to_vec(alloc)?;
-    let Some(graph) = graph(alloc, 2, columns, &[7, 6], 8)? else {
-        return Ok(assert!(rt; false));
-    };
-    let sig = graph.first(alloc)?;
-    assert_eq!(rt; sig.words(), [1].as_slice());
-    let Err(fault) = chamber(alloc, graph.cones(), &sig) else {
-        return Ok(assert!(rt; false));
-    };
-    let weight = plane(1, 1);
-    assert_eq!(rt; fault, ChamberFault::Crossed { weight, cone: 1 });
+    let grading = grading(alloc, &ONE_ROW.given)?;
+    assert!(rt; are_vectors(first_germ(&grading).as_slice(), &[&[5], &[1]]));
     Ok(())
 }
 
-/// A reducible ideal: two chambers that overlap, each behind a wall of the other.
 #[test]
-fn overlapping_chambers(rt: HostRuntime) -> Result<(), Fail> {
+fn refused_signatures_have_evidence(rt: HostRuntime) -> Result<(), Fail> {
     let alloc = rt.alloc();
-    let columns = [
-        IVec::of(&[9, -6]),
-        IVec::of(&[1, 0]),
-        IVec::of(&[0, 1]),
-        IVec::of(&[-2, 3]),
-    ]
-    .to_vec(alloc)?;
-    let Some(graph) = graph(alloc, 2, columns, &[15, 10, 9, 5], 16)? else {
-        return Ok(assert!(rt; false));
-    };
-    let rays = [plane(0, 1), plane(3, -2)];
-    let facets = [plane(1, 0), plane(2, 3)];
-    assert!(rt; ends_at(alloc, &graph, &[], 5, &rays, &facets, plane(3, -1))?);
-    let rays = [plane(-2, 3), plane(1, 0)];
-    let facets = [plane(0, 1), plane(3, 2)];
-    assert!(rt;
-        ends_at(
-            alloc,
-            &graph,
-            &[plane(1, 0)],
-            3,
-            &rays,
-            &facets,
-            plane(-1, 3)
-        )?
+    let weight = IVec::of(&[1, 1]);
+    assert_eq!(rt;
+        fault(alloc, &CROSSED)?,
+        ChamberFault::Crossed { weight, cone: 1 }
+    );
+    let what = WideWhat::Entry(IVec::of(&[-2000947495615, -311087924078, 8844788235]));
+    assert_eq!(rt;
+        fault(alloc, &WIDE)?,
+        ChamberFault::Wide(WideAt { stage: 3, what })
     );
     Ok(())
 }
