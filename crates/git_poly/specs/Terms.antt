@@ -22,3 +22,11 @@ pub record IsFirstNotAbove (ts : List Term) (start : ℕ) (m : Exponents) (place
   pub within : place ≤ length ts
   pub above : (k : ℕ) (t : Term) → start ≤ k → k < place → slice_get ts k ≡ Some t → rank m < rank t.mono
   pub not_above : (t : Term) → slice_get ts place ≡ Some t → rank t.mono ≤ rank m
+
+-- low and high are places, from the start on, between which the first one is whose monomial isn't above m
+pub record AreBoundsOfFirst (ts : List Term) (start : ℕ) (m : Exponents) (low high : ℕ) : Type 0 where
+  pub later : start ≤ low
+  pub order : low ≤ high
+  pub within : high ≤ length ts
+  pub above : (k : ℕ) (t : Term) → start ≤ k → k < low → slice_get ts k ≡ Some t → rank m < rank t.mono
+  pub not_above : (t : Term) → slice_get ts high ≡ Some t → rank t.mono ≤ rank m

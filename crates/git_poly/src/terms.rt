@@ -2,10 +2,11 @@
 
 ghost use Rattle.std.specs.Prelude.{◌≡◌, ◌≢◌, ◌+◌, ◌<◌, ◌≤◌, ◌++◌, ◌↔◌, All, IfOk, OnOk, IsTrue, [], filter, length};
 ghost use Rattle.git_algebra.specs.Exponents.{one, degree, in_face};
+ghost use Rattle.git_algebra.specs.Order.{rank};
 ghost use Rattle.git_algebra.specs.Sums.{shift, product};
 ghost use Rattle.git_algebra.specs.Polynomials.{Proper, entry};
 ghost use Rattle.git_algebra.specs.Operations.{greatest_degree};
-ghost use Rattle.git_poly.specs.Terms.{sum_of, IsForm, IsFirstNotAbove};
+ghost use Rattle.git_poly.specs.Terms.{sum_of, IsForm, IsFirstNotAbove, AreBoundsOfFirst};
 
 use crate::term::Term;
 use git_base::NoMemory;
@@ -118,16 +119,57 @@ pub fn merged_with_multiple(
     Ok(out)
 }
 
-/// The first place from `start` on whose monomial isn't above `m`, or the length.
+/// The first place from `start` on whose monomial isn't above `m`, or the length. The steps of the
+/// search double, and the last of them is halved.
 fn first_not_above(a: &[Term], start: usize, m: &Mono) -> usize
-    requires { start ≤ length a.now }
+    requires within { start ≤ length a.now }
+    requires proper { Proper (sum_of a.now) }
     ensures { IsFirstNotAbove a.now start m.now result }
 {
-    let mut i = start;
-    while i < a.len() && DegRevLex.compare(&a[i].mono, m) == Ordering::Greater {
-        i += 1;
+    let (low, high) = bounds_by_doubling(a, start, m);
+    first_by_halving(a, low, high, m)
+}
+
+/// Two places between which the first one from `start` on is whose monomial isn't above `m`.
+fn bounds_by_doubling(a: &[Term], start: usize, m: &Mono) -> (usize, usize)
+    requires within { start ≤ length a.now }
+    requires proper { Proper (sum_of a.now) }
+    ensures { AreBoundsOfFirst a.now start m.now result.0 result.1 }
+{
+    let mut low = start;
+    let mut step = 1;
+    while step <= a.len() - low && is_above(&a[low + step - 1], m) {
+        low += step;
+        step *= 2;
     }
-    i
+    (low, low + (step - 1).min(a.len() - low))
+}
+
+/// The first place from `low` on whose monomial isn't above `m`, where `high` is such a place or the
+/// length.
+fn first_by_halving(a: &[Term], low: usize, high: usize, m: &Mono) -> usize
+    requires bounds { AreBoundsOfFirst a.now low m.now low high }
+    requires proper { Proper (sum_of a.now) }
+    ensures { IsFirstNotAbove a.now low m.now result }
+{
+    let mut first = low;
+    let mut last = high;
+    while first < last {
+        let middle = first + (last - first) / 2;
+        if is_above(&a[middle], m) {
+            first = middle + 1;
+        } else {
+            last = middle;
+        }
+    }
+    first
+}
+
+/// Whether the monomial of a term is above another.
+fn is_above(t: &Term, m: &Mono) -> bool
+    ensures { IsTrue result ↔ (rank m.now < rank t.now.mono) }
+{
+    DegRevLex.compare(&t.mono, m) == Ordering::Greater
 }
 
 /// A term at the end, left out where its number is 0.
