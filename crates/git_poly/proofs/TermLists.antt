@@ -1,6 +1,6 @@
 -- Lists of the program's terms, and their sums.
-use Rattle.std.proofs.Common.{zero, suc, ℕ, ◌+◌, ◌<◌, ◌≤◌, ◌≡◌, refl, List, [], ◌∷◌, ◌++◌, length, get_or, take, drop, sym, ap, ◌∙◌, add-one, arith, Option, Some, None}
-use Rattle.std.specs.Prelude.{slice_get, IsNone, IsSome}
+use Rattle.std.proofs.Common.{zero, suc, ℕ, ◌+◌, ◌<◌, ◌≤◌, ◌≡◌, refl, List, [], ◌∷◌, ◌++◌, length, get_or, take, drop, sym, ap, ◌∙◌, add-one, arith, Some, None}
+use Rattle.std.specs.Prelude.{slice_get}
 use Rattle.std.proofs.Math.Seq.{drop-cons}
 use Rattle.std.proofs.lemmas.List.{take_more}
 use Rattle.git_algebra.specs.Exponents.{degree}
@@ -9,7 +9,6 @@ use Rattle.git_algebra.specs.Operations.{first_term, greatest_degree}
 use Rattle.git_algebra.proofs.Normal.{terms_is}
 use Rattle.git_poly.specs.declared.term.Term.{Term}
 use Rattle.git_poly.specs.Terms.{sum_of}
-use Rattle.git_lemmas.proofs.Options.{some_unless_none}
 
 pub length-sum_of : (ts : List Term) → length (sum_of ts) ≡ length ts
 length-sum_of [] = refl

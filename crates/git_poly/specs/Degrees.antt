@@ -1,5 +1,5 @@
 -- Degrees of monomials under a grading, whose columns are the degrees of the variables, and homogeneous polynomials.
-use Rattle.std.specs.Prelude.{ℕ, ◌≡◌, ◌≢◌, ◌<◌, ◌≤◌, List, length, map, pos, Some, All, Contains}
+use Rattle.std.specs.Prelude.{ℕ, ◌≡◌, ◌<◌, ◌≤◌, List, length, map, pos, Some, All, Contains}
 use Rattle.std.proofs.Common.{get_or}
 use Rattle.git_defs.specs.Vectors.{Vector, combination}
 use Rattle.git_algebra.specs.Exponents.{Exponents, exponent}

@@ -1,4 +1,4 @@
-use Rattle.std.proofs.Common.{ap, refl, sym, subst, ◌∙◌, arith, ◌≡◌, ◌++◌, ◌∷◌, [], drop, List, Vec, Global, inl, inr}
+use Rattle.std.proofs.Common.{ap, refl, sym, subst, ◌∙◌, arith, ◌≡◌, ◌++◌, ◌∷◌, [], drop, List, inl, inr}
 use Rattle.std.proofs.lemmas.List.{take_rest}
 use Rattle.git_poly.specs.declared.term.Term.{Term}
 use Rattle.std.specs.Cmp.{ranked}

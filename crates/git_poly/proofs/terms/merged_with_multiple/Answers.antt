@@ -1,9 +1,8 @@
-use Rattle.std.proofs.Common.{ℕ, ◌<◌, ◌≤◌, ◌≡◌, ◌≢◌, ◌∷◌, ◌++◌, [], ◌+◌, ◌-◌, ◌%◌, length, get_or, take, drop, refl, sym, ap, subst, ◌∙◌, arith, List, Vec, Global, Option}
+use Rattle.std.proofs.Common.{ℕ, ◌≡◌, ◌∷◌, ◌++◌, [], ◌+◌, ◌-◌, ◌%◌, get_or, take, drop, refl, sym, ap, subst, ◌∙◌, arith, List, Vec, Global, Option}
 use Rattle.std.specs.Prelude.{IfSome}
 use Rattle.std.proofs.Math.Nat.{pos_of_ne-zero}
 use Rattle.std.proofs.lemmas.Bool.{eqb-true, eqb-false}
 use Rattle.std.proofs.lemmas.List.{take_rest}
-use Rattle.std.proofs.lemmas.Option.{slice_get_read}
 use Rattle.git_algebra.specs.Exponents.{Exponents, times}
 use Rattle.git_algebra.specs.Order.{rank}
 use Rattle.git_algebra.specs.Sums.{Sum, shift}

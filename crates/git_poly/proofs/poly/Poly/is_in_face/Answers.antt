@@ -1,4 +1,4 @@
-use Rattle.std.proofs.Common.{rules, ◌≡◌, ◌↔◌, All, IsTrue, subst, sym}
+use Rattle.std.proofs.Common.{◌↔◌, All, IsTrue, subst, sym}
 use Rattle.git_algebra.specs.Exponents.{in_face}
 use Rattle.git_algebra.specs.Sums.{Sum}
 use Rattle.git_poly.proofs.TermLists.{held_terms}
