@@ -12,13 +12,7 @@ use Rattle.git_geometry.proofs.Independence.{chosen_member, chosen_of_length, no
 use Rattle.git_geometry.proofs.Ranks.{rank_or_zero}
 use Rattle.git_faces.specs.FullFaces.{AreFullFaces}
 use Rattle.git_faces.proofs.FullMasks.{FacesFrom, none, taken, skipped, whole}
-
-face_of_length : (k : ℕ) (qs : List Vector) (m : ℕ) → OfLength k qs → OfLength k (face qs m)
-face_of_length k [] m have = have
-face_of_length k (q ∷ qs) m have = by (has_bit m 0) (face_of_length k qs (m / 2) (rest_of_length k q qs have)) where
-  by : (b : Bool) → OfLength k (face qs (m / 2)) → OfLength k (if b then q ∷ face qs (m / 2) else face qs (m / 2))
-  by true rest = more_of_length k q (face qs (m / 2)) (first_of_length k q qs have) rest
-  by false rest = rest
+use Rattle.git_minors.proofs.Parts.{face_of_length}
 
 rank_or_not : (k : ℕ) (vs : List Vector) → OfLength k vs → HasRank k vs ⊎ (HasRank k vs → ⊥)
 rank_or_not k vs have = elim (rank_or_zero k vs have) [

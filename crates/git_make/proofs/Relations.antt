@@ -23,28 +23,9 @@ use Rattle.git_grading.specs.Gradings.{Degrees}
 use Rattle.git_input.specs.Inputs.{AreGenerators}
 use Rattle.git_make.specs.Samples.{three_terms, plucker_columns, plucker_relations}
 use Rattle.git_make.proofs.Gradings.{Each, each_all, each_weaker}
+use Rattle.git_text.proofs.GeneratorLines.{length-terms}
 
 -- ---- few terms
-
-entry_few : (m : Exponents) (c : ℕ) (p : Sum) → length (entry m c p) ≤ suc (length p)
-entry_few m zero p = omega arith
-entry_few m (suc c) p = omega arith
-
-put_few : (m : Exponents) (c : ℕ) (p : Sum) → length (put m c p) ≤ suc (length p)
-put_few m c [] = entry_few m (c % 32003) []
-put_few m c (t ∷ p) = by (nat_cmp (rank m) (rank t.0)) (put_few m c p) where
-  by : (r : Ordering) → length (put m c p) ≤ suc (length p) → length (put_by r m c t.0 t.1 p (put m c p)) ≤ suc (suc (length p))
-  by Less h = omega (arith, h)
-  by Equal h = let k = entry_few m ((c + t.1) % 32003) p in omega (arith, k)
-  by Greater h = entry_few m (c % 32003) ((t.0, t.1) ∷ p)
-
-normal_few : (s : Sum) → length (normal_list s) ≤ length s
-normal_few [] = omega arith
-normal_few (t ∷ s) = let k = put_few t.0 t.1 (normal_list s) in let h = normal_few s in omega (arith, k, h)
-
-few_normal : (s : Sum) → length (normal s).terms ≤ length s
-unfolding normal
-few_normal s = normal_few s
 
 shift_few : (m : Exponents) (c : ℕ) (s : Sum) → length (shift m c s) ≡ length s
 shift_few m c [] = refl
@@ -52,16 +33,16 @@ shift_few m c (t ∷ s) = ap suc (shift_few m c s)
 
 term_few : (m : Exponents) → length (term_of m 1).terms ≤ 1
 unfolding term_of
-term_few m = few_normal ((m, 1) ∷ [])
+term_few m = length-terms ((m, 1) ∷ [])
 
 minus_few : (p q : Polynomial) → length (minus p q).terms ≤ length p.terms + length q.terms
 unfolding minus
 minus_few p q =
-    let h = few_normal (p.terms ++ shift one 32002 q.terms) in let k = length-append p.terms (shift one 32002 q.terms) in let e = shift_few one 32002 q.terms in omega (arith, h, k, e)
+    let h = length-terms (p.terms ++ shift one 32002 q.terms) in let k = length-append p.terms (shift one 32002 q.terms) in let e = shift_few one 32002 q.terms in omega (arith, h, k, e)
 
 plus_few : (p q : Polynomial) → length (plus p q).terms ≤ length p.terms + length q.terms
 unfolding plus
-plus_few p q = let h = few_normal (p.terms ++ q.terms) in let k = length-append p.terms q.terms in omega (arith, h, k)
+plus_few p q = let h = length-terms (p.terms ++ q.terms) in let k = length-append p.terms q.terms in omega (arith, h, k)
 
 three_few : (a b c : Exponents) → length (three_terms a b c).terms ≤ 3
 three_few a b c =

@@ -133,7 +133,7 @@ pub numbers_left : (m : Exponents) (old new : Sum) → new ≡ remove_entry (is_
 numbers_left m old new e u = subst AreNumbers (sym e) (numbers-remove_entry m old u)
 
 -- the first terms of a list, and one more
-take_next : (p : Sum) (i : ℕ) (t : Exponents × ℕ) → slice_get p i ≡ Some t → take (i + 1) p ≡ take i p ++ t ∷ []
+pub take_next : (p : Sum) (i : ℕ) (t : Exponents × ℕ) → slice_get p i ≡ Some t → take (i + 1) p ≡ take i p ++ t ∷ []
 take_next p i t e = take_more p i t (slice_get_within p i t e) ∙ ap (λ (u : Exponents × ℕ). take i p ++ u ∷ []) (get_or_from_slice_get p i t t e)
 
 pub one_taken : (p : Sum) (i : ℕ) (t : Exponents × ℕ) (old new : Sum) → slice_get p i ≡ Some t → Alike new (t ∷ old) → Alike old (take i p) → Alike new (take (i + 1) p)

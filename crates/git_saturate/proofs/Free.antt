@@ -34,6 +34,7 @@ use Rattle.git_basis.proofs.EndedRuns.{kept_first, nonzero_members, ideal_to_zer
 use Rattle.git_saturate.specs.Starts.{kept_by, nonzero_part, start_of}
 use Rattle.git_saturate.proofs.StartLists.{one_longer}
 use Rattle.git_saturate.proofs.Variables.{restricted_in, clearing_in}
+use Rattle.git_facecert.proofs.Firsts.{same_member}
 
 -- the nonzero ones of a list
 record Found (ps qs : List Polynomial) (k : ℕ) : Type 0 where
@@ -116,11 +117,6 @@ start_small generators mask small all = start_all (λ f. total_degree f ≤ 1048
 
 pub start_in_face : (generators : List Polynomial) (mask : ℕ) → mask < 65536 → All (IsInFace (mask + 65536)) (start_of generators mask)
 start_in_face generators mask small = start_all (IsInFace (mask + 65536)) generators mask (λ k lt some. restricted_in mask (member generators k) small) (clearing_in mask small)
-
-same_member : (ps : List Polynomial) (i : ℕ) (d e : Polynomial) → i < length ps → get_or ps i d ≡ get_or ps i e
-same_member [] i d e h = absurd (omega arith)
-same_member (p ∷ ps) zero d e h = refl
-same_member (p ∷ ps) (suc i) d e h = same_member ps i d e (omega arith)
 
 members_are : (mask : ℕ) (s : State) → AreNonzero (polynomials s.members) → Holds (EachIn Low) s → Holds (EachIn (IsInFace (mask + 65536))) s → (HasUnit s → ⊥) → All (IsMember mask) (polynomials s.members)
 members_are mask s nonzero low face none k d h =

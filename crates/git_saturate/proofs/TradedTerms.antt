@@ -18,6 +18,7 @@ use Rattle.git_ideals.proofs.Divisions.{zero_has_no_lead}
 use Rattle.git_basis.proofs.Numbers.{top_of}
 use Rattle.git_saturate.specs.Starts.{kept_by, nonzero_part}
 use Rattle.git_saturate.specs.Traded.{traded_polynomial, greatest_extra, greatest_extra_of, spread_here, spread}
+use Rattle.git_reduce.proofs.TermMaps.{take_next}
 
 -- the extra variable's power divides, and the quotient is without it
 pub extra_divides : (a : Exponents) → Divides (variable_power 16 (extra a)) a
@@ -36,10 +37,6 @@ pub traded_from : (e a : Exponents) (n : ℕ) (front product : Exponents) → fr
 unfolding traded
 traded_from e a n front product f p = λ i. times ((f ∙ without_is a) i) (p i)
 
--- one term more
-next_taken : (p : Sum) (i : ℕ) (t : Exponents × ℕ) → slice_get p i ≡ Some t → take (i + 1) p ≡ take i p ++ t ∷ []
-next_taken p i t e = take_more p i t (slice_get_within p i t e) ∙ ap (λ (u : Exponents × ℕ). take i p ++ u ∷ []) (get_or_from_slice_get p i t t e)
-
 mapped-append : (g : Exponents → Exponents) (p : Sum) (t : Exponents × ℕ) → mapped g (p ++ t ∷ []) ≡ mapped g p ++ (g t.0, t.1) ∷ []
 mapped-append g [] t = refl
 mapped-append g (u ∷ p) t = ap (λ (s : Sum). (g u.0, u.1) ∷ s) (mapped-append g p t)
@@ -54,7 +51,7 @@ unfolding plus term_of
 one_more_traded e n p i t sum next more m s at is a b =
     b ∙ (λ k. plus (s k) ((a ∙ ap (λ x. term_of x t.1) is) k))
     ∙ same_normal (alike-append (normal_alike (mapped (traded e n) (take i p))) (normal_alike ((traded e n t.0, t.1) ∷ [])))
-    ∙ ap normal (sym (ap (mapped (traded e n)) (next_taken p i t at) ∙ mapped-append (traded e n) (take i p) t))
+    ∙ ap normal (sym (ap (mapped (traded e n)) (take_next p i t at) ∙ mapped-append (traded e n) (take i p) t))
 
 pub all_traded : (e : Exponents) (n : ℕ) (p : Polynomial) (i : ℕ) → length p.terms ≤ i → normal (mapped (traded e n) (take i p.terms)) ≡ traded_polynomial e n p
 all_traded e n p i h = ap (λ (s : Sum). normal (mapped (traded e n) s)) (take_all i p.terms h)
@@ -65,7 +62,7 @@ greatest-append [] t = omega arith
 greatest-append (u ∷ p) t = omega (arith, greatest-append p t)
 
 pub one_more_greatest : (p : Sum) (i : ℕ) (t : Exponents × ℕ) (now next : ℕ) → now ≡ greatest_extra (take i p) → slice_get p i ≡ Some t → next ≡ max (extra t.0) now → next ≡ greatest_extra (take (i + 1) p)
-one_more_greatest p i t now next e at is = omega (arith, e, is, ap greatest_extra (next_taken p i t at), greatest-append (take i p) t)
+one_more_greatest p i t now next e at is = omega (arith, e, is, ap greatest_extra (take_next p i t at), greatest-append (take i p) t)
 
 greatest_of-append : (ps : List Polynomial) (p : Polynomial) → greatest_extra_of (ps ++ p ∷ []) ≡ max (greatest_extra_of ps) (greatest_extra p.terms)
 greatest_of-append [] p = omega arith

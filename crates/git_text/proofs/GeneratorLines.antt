@@ -150,7 +150,7 @@ length-normal : (s : Sum) → length (normal_list s) ≤ length s
 length-normal [] = omega arith
 length-normal (t ∷ s) = let h = length-put t.0 t.1 (normal_list s) in let g = length-normal s in omega (arith, h, g)
 
-length-terms : (s : Sum) → length (normal s).terms ≤ length s
+pub length-terms : (s : Sum) → length (normal s).terms ≤ length s
 unfolding normal
 length-terms s = length-normal s
 
