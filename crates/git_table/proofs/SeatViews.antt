@@ -28,7 +28,7 @@ use Rattle.git_table.specs.declared.answers.Taken.TheVariants as taken
 use Rattle.git_table.specs.declared.answers.Hinted.{Hinted}
 use Rattle.git_table.specs.declared.answers.Hinted.TheVariants as hinted
 use Rattle.git_table.specs.Offers.{OfferSays}
-use Rattle.git_table.specs.Takes.{Scanned, TakeSays, HintSays}
+use Rattle.git_table.specs.Takes.{NotStopped, Scanned, TakeSays, HintSays}
 use Rattle.git_table.specs.Views.{FrontierView, SeatView, frontier_view, known_view, post_view, stacked, IsKey, IsFrontier, IsSeat}
 use Rattle.git_table.specs.Stacks.{option_list, front_number, hand_taken, hand_hinted}
 use Rattle.git_table.specs.Calls.{IsOf, Sees, joined_seat, state_word, live_word, stop_word, HandLeads, ScannedFrom, OfferTells, TakeTells, HintTells}
@@ -52,7 +52,7 @@ module _ {G : Type 0} where
     stop_is = λ i. 1 + k.hashes i + records v.key * k.width i + records v.key + 1
 
     scanned : (n lo : ℕ) (added : List (ℕ × ℕ)) → Scanned v n lo added → ScannedFrom (frontier_view z v.key) n lo added
-    scanned n lo added s = (s.0, λ q a b c. let o = s.1 q a b c in (o.0, o.1, subst (λ (i : ℕ). HasIn added i o.0) (state_is q) o.2))
+    scanned n lo added s = (s.0, (λ q a b c. let o = s.1 q a b c in (o.0, o.1, subst (λ (i : ℕ). HasIn added i o.0) (state_is q) o.2)), let going : NotStopped v added = s.2 in (going.0, going.1, subst (λ (i : ℕ). HasIn added i going.0) stop_is going.2))
 
     module _ (p : Post G) (y : TableId) (same : y ≡ z) where
       shows : (w : Known G) → p ≡ Held w → post_view y p ≡ known_view z w

@@ -9,7 +9,7 @@ use Rattle.git_visits.specs.declared.view.Post.TheVariants.{Held}
 use Rattle.git_visits.specs.Visits.{records, state_at, live_at}
 use Rattle.git_visits.specs.Seats.{HasIn}
 use Rattle.git_visits.specs.Plays as plays
-use Rattle.git_table.specs.Takes.{Looks, Scanned}
+use Rattle.git_table.specs.Takes.{Looks, NotStopped, Scanned}
 
 module _ {G : Type 0} where
   pub looked_one : (slots i n : ℕ) (m m' : Me (Unit {0}) (Post G)) → plays.looked (step slots i 0 0 none) m n m' → (v : Known G) (added : List (ℕ × ℕ)) → m.0 ≡ Held (Looks v added) → m'.0 ≡ Held (Looks v ((i, n) ∷ added))
@@ -25,11 +25,11 @@ module _ {G : Type 0} where
   took_miss slots i n id m m' told v added is at other =
       let t = told.1 (Looks v added) is in t.1 ∙ (ap (λ (u : Known G). Held u) ((t.2 id at).1 other) ∙ ap (λ (j : ℕ). Held (record v { looks = (j, n) ∷ (added ++ v.looks) })) at)
 
-  pub scanned_start : (v : Known G) (n lo : ℕ) (added : List (ℕ × ℕ)) → ((q : ℕ) → lo ≤ q → q < n → q < records v.key → ⊥) → Scanned v n lo ((0, n) ∷ added)
-  scanned_start v n lo added nobody = ((0, refl), λ q a b c. absurd (nobody q a b c))
+  pub scanned_start : (v : Known G) (n lo : ℕ) (added : List (ℕ × ℕ)) → ((q : ℕ) → lo ≤ q → q < n → q < records v.key → ⊥) → NotStopped v added → Scanned v n lo ((0, n) ∷ added)
+  scanned_start v n lo added nobody going = ((0, refl), (λ q a b c. absurd (nobody q a b c)), (going.0, going.1, (suc going.2.0, going.2.1)))
 
   pub scanned_more : (v : Known G) (n lo x : ℕ) (added : List (ℕ × ℕ)) → Scanned v n (lo + 1) added → x ≢ 1 → Scanned v n lo ((state_at v.key lo, x) ∷ added)
-  scanned_more v n lo x added s other = ((suc s.0.0, s.0.1), λ q a b c. by q a b c (dec_lt lo q))
+  scanned_more v n lo x added s other = ((suc s.0.0, s.0.1), (λ q a b c. by q a b c (dec_lt lo q)), let going : NotStopped v added = s.2 in (going.0, going.1, (suc going.2.0, going.2.1)))
     where
       by : (q : ℕ) → lo ≤ q → q < n → q < records v.key → Dec (lo < q) → (y : ℕ) × (y ≢ 1) × HasIn ((state_at v.key lo, x) ∷ added) (state_at v.key q) y
       by q a b c (yes l) = let o = s.1 q (omega arith) b c in (o.0, o.1, (suc o.2.0, o.2.1))

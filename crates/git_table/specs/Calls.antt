@@ -62,9 +62,13 @@ module _ {G : Type 0} where
   OfferTells f s t x (offer.Seen id) = (id < room f) × (t ≡ record s { seen = (id, x) ∷ s.seen })
   OfferTells f s t x offer.Full = (n : ℕ) × (room f ≤ n) × (t ≡ record s { full = 1; looks = (next_word, n) ∷ s.looks })
 
-  -- the draws were n, and each state word from lo on that is below n wasn't 1
+  -- STOP was read, and wasn't 1
+  abbrev pub NotHalted : FrontierView G → List (ℕ × ℕ) → Type 0
+  NotHalted f added = (y : ℕ) × (y ≢ 1) × HasIn added (stop_word f) y
+
+  -- STOP wasn't 1, the draws were n, and each state word from lo on that is below n wasn't 1
   abbrev pub ScannedFrom : FrontierView G → ℕ → ℕ → List (ℕ × ℕ) → Type 0
-  ScannedFrom f n lo added = HasIn added next_word n × ((id : ℕ) → lo ≤ id → id < n → id < room f → (x : ℕ) × (x ≢ 1) × HasIn added (state_word f id) x)
+  ScannedFrom f n lo added = HasIn added next_word n × ((id : ℕ) → lo ≤ id → id < n → id < room f → (x : ℕ) × (x ≢ 1) × HasIn added (state_word f id) x) × NotHalted f added
 
   abbrev pub TakeTells : FrontierView G → SeatView G → SeatView G → Taken → Type 0
   TakeTells f s t (taken.Work id) = (id < room f) × ((n : ℕ) × (added : List (ℕ × ℕ)) × ScannedFrom f n (id + 1) added × (t ≡ record s { hand = Some id; looks = (state_word f id, 1) ∷ (added ++ s.looks) }))

@@ -15,9 +15,13 @@ module _ {G : Type 0} where
   abbrev pub Looks : Known G → List (ℕ × ℕ) → Known G
   Looks v added = record v { looks = added ++ v.looks }
 
-  -- NEXT was n, and each record from lo on that is below n wasn't queued at its step
+  -- STOP was read, and wasn't 1
+  abbrev pub NotStopped : Known G → List (ℕ × ℕ) → Type 0
+  NotStopped v added = (y : ℕ) × (y ≢ 1) × HasIn added (stop_at v.key) y
+
+  -- STOP wasn't 1, NEXT was n, and each record from lo on that is below n wasn't queued at its step
   abbrev pub Scanned : Known G → ℕ → ℕ → List (ℕ × ℕ) → Type 0
-  Scanned v n lo added = HasIn added 0 n × ((q : ℕ) → lo ≤ q → q < n → q < records v.key → (x : ℕ) × (x ≢ 1) × HasIn added (state_at v.key q) x)
+  Scanned v n lo added = HasIn added 0 n × ((q : ℕ) → lo ≤ q → q < n → q < records v.key → (x : ℕ) × (x ≢ 1) × HasIn added (state_at v.key q) x) × NotStopped v added
 
   abbrev pub HintSays : Known G → Post G → ℕ → Hinted → Type 0
   HintSays v p id (hinted.Work n) = (n ≡ id) × (p ≡ Held (record v { work = record v.work { hand = Some n }; looks = (state_at v.key n, 1) ∷ v.looks }))

@@ -3,7 +3,8 @@ use Rattle.git_visits.specs.declared.view.Key.{Key}
 use Rattle.git_visits.specs.declared.view.Known.{Known}
 use Rattle.git_visits.specs.declared.view.Post.TheVariants.{Held}
 use Rattle.git_visits.specs.Visits.{records, state_at, live_at, stop_at}
-use Rattle.git_table.specs.Takes.{Scanned, Looks}
+use mathlib.Core.Option.{some}
+use Rattle.git_table.specs.Takes.{NotStopped, Scanned, Looks}
 use Rattle.git_table.proofs.Told.{held_same}
 use Rattle.git_table.proofs.TakeLooks.{looked_one, took_hit, took_miss, scanned_start, scanned_more, quieted_zero, quieted_not}
 use Rattle.git_table.proofs.visited.Visited.take.Goals as goal
@@ -39,7 +40,9 @@ loop-k-init g c = record {
       let one : List (ℕ × ℕ) = (c.args.self.now.states + c.args.self.now.records + 1, c.look_word.result) ∷ [] in
       let u = looked_one c.args.self.now.table.shared.table_id.slots 0 c.look_word-bound.result c.look_word.new.seat.me c.look_word-bound.new.seat.me c.look_word-bound.ensures.told v one t in
       let w = c.within-top.ensures in
-      ((0, c.look_word-bound.result) ∷ one, scanned_start v c.look_word-bound.result (c.within-top.result - 0) one (λ q x y z. past q (c.within-top.result) c.look_word-bound.result c.args.self.now.records (records v.key) w r x y z), u);
+      let at : c.args.self.now.states + c.args.self.now.records + 1 ≡ stop_at v.key = (let a = c.args.self.now.states_is in let here : c.args.self.now.states + c.args.self.now.records + 1 ≡ stop_at key = cc in here ∙ ap (λ (k : Key g.row.G.Denot). stop_at k) (sym is)) in
+      let going : NotStopped v one = (c.look_word.result, c.if-look_word-eq1.false, (0, ap (λ (i : ℕ). some (i, c.look_word.result)) at)) in
+      ((0, c.look_word-bound.result) ∷ one, scanned_start v c.look_word-bound.result (c.within-top.result - 0) one (λ q x y z. past q (c.within-top.result) c.look_word-bound.result c.args.self.now.records (records v.key) w r x y z) going, u);
 }
 
 pub take_word-requires-clause-view : goal.take_word-requires-clause-view
