@@ -22,7 +22,7 @@ use Rattle.git_ideals.proofs.Cancelling.{height, height_of_lead, step_lower, num
 use Rattle.git_ideals.proofs.SPolynomials.{same_lead}
 use Rattle.git_ideals.proofs.Divisions.{within, to_zero, zero_has_no_lead}
 use Rattle.git_ideals.proofs.Buchberger.{no_lead}
-use Rattle.git_reduce.specs.Steps.{IsFirst}
+use Rattle.git_reduce.specs.Steps.{IsFirst, IsReached}
 
 -- the member at a place that is read
 pub member_is : (basis : List Polynomial) (i : ℕ) (g : Polynomial) → g ≡ get_or basis i g → i < length basis → g ≡ member basis i
@@ -30,11 +30,6 @@ member_is basis i g e lt =
     let two : Some (get_or basis i g) ≡ Some (member basis i) = sym (slice_get-get_or basis i g lt) ∙ slice_get-get_or basis i zero_polynomial lt in
     let same : get_or basis i g ≡ member basis i = cc in
     e ∙ same
-
--- p is reached from f
-pub record IsReached (basis : List Polynomial) (f p : Polynomial) : Type 0 where
-  pub steps : List Step
-  pub reaches : Reaches basis f steps p
 
 reaches_more : (basis : List Polynomial) (f p : Polynomial) (ss : List Step) (s : Step) → Reaches basis f ss p → TakesLead basis p s → Reaches basis f (ss ++ s ∷ []) (after basis p s)
 reaches_more basis f p [] s h k = (subst (λ (q : Polynomial). TakesLead basis q s) (sym h) k, ap (λ (q : Polynomial). after basis q s) h)

@@ -3,7 +3,7 @@ use Rattle.std.specs.Prelude.{ℕ, ◌<◌, ◌≡◌, List, length, Some}
 use Rattle.git_algebra.specs.Exponents.{Exponents, lcm, degree}
 use Rattle.git_algebra.specs.Polynomials.{Polynomial}
 use Rattle.git_algebra.specs.Operations.{lead_of}
-use Rattle.git_ideals.specs.Division.{member, LeadDivides}
+use Rattle.git_ideals.specs.Division.{Step, member, LeadDivides, Reaches}
 
 -- no member's lead divides m
 abbrev pub NoneDivides : List Polynomial → Exponents → Type 0
@@ -22,3 +22,8 @@ pub record IsMultipleAbove (limit : ℕ) (f g : Polynomial) : Type 0 where
   pub other : Exponents × ℕ
   pub is_other : lead_of g ≡ Some other
   pub above : limit < degree (lcm lead.0 other.0)
+
+-- p is reached from f
+pub record IsReached (basis : List Polynomial) (f p : Polynomial) : Type 0 where
+  pub steps : List Step
+  pub reaches : Reaches basis f steps p

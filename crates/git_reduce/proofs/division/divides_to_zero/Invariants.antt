@@ -1,5 +1,5 @@
 use Rattle.git_ideals.proofs.Cancelling.{height}
-use Rattle.git_reduce.proofs.Dividing.{IsReached}
+use Rattle.git_reduce.specs.Steps.{IsReached}
 use Rattle.git_reduce.proofs.division.divides_to_zero.Given as goal
 
 abbrev pub invariant-loop-step : goal.invariant-loop-step
