@@ -15,11 +15,9 @@ use crate::ray::Ray;
 use crate::stage::next;
 use git_base::NoMemory;
 use git_ints::IVec;
+use git_limits::MANY;
 use git_stages::{WideAt, WideWhat, add, is_small, lesser, sorted_set};
 use std::alloc::Global;
-
-/// The most vectors of a stage.
-const MANY: usize = 65536;
 
 /// The vectors alone.
 pub fn vectors_of(alloc: Global, rays: &[Ray]) -> Result<Vec<IVec>, NoMemory>
