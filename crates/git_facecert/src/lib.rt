@@ -11,7 +11,9 @@ mod judging;
 mod laws;
 mod monomial;
 
-pub use certificate::{Accepted, CERT_DEGREE, CERT_MEMBERS, CERT_POWER, FaceCert, FaceVerdict, Place};
+pub use certificate::{
+    Accepted, CERT_DEGREE, CERT_MEMBERS, CERT_POWER, FaceCert, FaceVerdict, Place,
+};
 pub use face::{clearing_of, face_power};
 pub use judging::accept;
 pub use laws::{
