@@ -103,10 +103,6 @@ numbers_has (x ∷ ws) at (suc w) i e h = in_right (at + (64 * suc w + i)) (plac
     (subst (λ (m : ℕ). Member m (numbers ws (at + 64))) (omega arith) (numbers_has ws (at + 64) w i e (omega (arith, h))))
 
 -- ---- one word more
-pub shared_step : (r s : List ℕ) (i : ℕ) → length s ≡ length r → i < length r
-    → shared (drop i r) (drop i s) ≡ count_ones (bit_and (get_or r i 0) (get_or s i 0)) + shared (drop (i + 1) r) (drop (i + 1) s)
-shared_step r s i e h = λ j. shared (drop_more r i 0 h j) (drop_more s i 0 (omega (arith, e, h)) j)
-
 pub shared_end : (r s : List ℕ) (i : ℕ) → length r ≤ i → shared (drop i r) (drop i s) ≡ 0
 shared_end [] s zero h = refl
 shared_end [] s (suc i) h = refl
