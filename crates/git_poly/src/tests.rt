@@ -114,6 +114,54 @@ fn products_merge_like_terms(rt: HostRuntime) -> Result<(), Fail> {
     Ok(())
 }
 
+/// Powers of T(1), `step` apart, from 0 on.
+fn powers(alloc: Global, step: u32, count: u32) -> Result<Poly, NoMemory> {
+    let mut sum = Poly::zero(alloc);
+    for i in 0..count {
+        let power = Mono::power(0, i.saturating_mul(step)).unwrap_or(Mono::one());
+        sum = sum.add(alloc, &Poly::term(alloc, power, Fp::reduce(7))?)?;
+    }
+    Ok(sum)
+}
+
+/// Whether a polynomial less a multiple of another is the same in one pass and term by term.
+fn is_less_by_terms(alloc: Global, p: &Poly, m: &Mono, g: &Poly) -> Result<bool, NoMemory> {
+    let c = Fp::reduce(5);
+    let Ok(less) = p.sub_times(alloc, m, c, g) else {
+        return Ok(false);
+    };
+    let Ok(multiple) = g.times_term(alloc, m, c) else {
+        return Ok(false);
+    };
+    let difference = less.sub(alloc, &p.sub(alloc, &multiple)?)?;
+    Ok(difference.is_zero())
+}
+
+/// Between two terms of the multiple lie none, few or many terms.
+#[test]
+fn multiples_are_taken_away_in_pieces(rt: HostRuntime) -> Result<(), Fail> {
+    let alloc = rt.alloc();
+    let p = powers(alloc, 1, 120)?;
+    for (step, count) in [
+        (1, 120),
+        (2, 60),
+        (3, 40),
+        (4, 30),
+        (31, 5),
+        (32, 5),
+        (33, 5),
+        (119, 2),
+        (120, 2),
+        (200, 2),
+    ] {
+        let g = powers(alloc, step, count)?;
+        for m in [monomial([0, 0, 0, 0]), monomial([3, 0, 0, 0])] {
+            assert!(rt; is_less_by_terms(alloc, &p, &m, &g)?, "steps of {step}");
+        }
+    }
+    Ok(())
+}
+
 #[test]
 fn terms_are_read_in_descending_order(rt: HostRuntime) -> Result<(), Fail> {
     let alloc = rt.alloc();

@@ -83,6 +83,66 @@ fn later_members_divide_what_earlier_ones_do_not(rt: HostRuntime) -> Result<(), 
     Ok(())
 }
 
+/// Powers of T(1) or of T(2), from 0 on.
+fn powers(alloc: Global, variable: usize, count: u32) -> Result<Poly, NoMemory> {
+    let mut sum = Poly::zero(alloc);
+    for i in 0..count {
+        let mono = if variable == 0 {
+            Mono::power(0, i)
+        } else {
+            Mono::power(1, i)
+        };
+        sum = sum.add(
+            alloc,
+            &Poly::term(alloc, mono.unwrap_or(Mono::one()), Fp::reduce(1))?,
+        )?;
+    }
+    Ok(sum)
+}
+
+/// Whether both ways of dividing say that the rest is 0, or not.
+fn divide_alike(alloc: Global, f: &Poly, basis: &[Poly], zero: bool) -> Result<bool, NoMemory> {
+    let division = divide(alloc, f, basis)?;
+    Ok(division.rest.is_zero() == zero && divides_to_zero(alloc, f, basis)? == zero)
+}
+
+/// The divisions without quotients begin with lists and go on with a map where there are many terms.
+#[test]
+fn few_terms_and_many_divide_alike(rt: HostRuntime) -> Result<(), Fail> {
+    let alloc = rt.alloc();
+    let mut basis = Vec::new(alloc);
+    basis.push(polynomial(alloc, &[(1, 0, 1), (0, 1, -1)])?)?;
+    for count in [1, 15, 16, 17, 32, 33, 50] {
+        let sum = powers(alloc, 0, count)?;
+        assert!(rt; divide_alike(alloc, &sum, &basis, false)?, "{count} terms");
+        let Ok(product) = sum.times(alloc, &polynomial(alloc, &[(1, 0, 1), (0, 1, -1)])?) else {
+            return Ok(assert!(rt; false));
+        };
+        assert!(rt;
+            divide_alike(alloc, &product, &basis, true)?,
+            "twice {count} terms"
+        );
+    }
+    Ok(())
+}
+
+/// The terms become many while a dividend of two terms is divided.
+#[test]
+fn dividends_may_grow(rt: HostRuntime) -> Result<(), Fail> {
+    let alloc = rt.alloc();
+    let mut basis = Vec::new(alloc);
+    let lead = polynomial(alloc, &[(20, 0, 1)])?;
+    basis.push(lead.sub(alloc, &powers(alloc, 1, 20)?)?)?;
+    let f = polynomial(alloc, &[(41, 0, 1), (40, 0, 1)])?;
+    assert!(rt; divide_alike(alloc, &f, &basis, false)?);
+    let multiple = f.times(alloc, &lead.sub(alloc, &powers(alloc, 1, 20)?)?);
+    let Ok(multiple) = multiple else {
+        return Ok(assert!(rt; false));
+    };
+    assert!(rt; divide_alike(alloc, &multiple, &basis, true)?);
+    Ok(())
+}
+
 #[test]
 fn s_polynomials_are_monic_and_stop_at_the_degree_limit(rt: HostRuntime) -> Result<(), Fail> {
     let alloc = rt.alloc();

@@ -433,24 +433,47 @@ fn worked<R: Threads + Sync>(
     callers
 }
 
+/// What a take answers. The hand that it may give is finished.
+fn answered(
+    alloc: Global,
+    frontier: &Frontier<Star>,
+    star: &Star,
+    caller: &mut Caller,
+) -> Result<Said, NoMemory>
+    requires caller { IsCaller frontier.now caller.old.seat caller.old.busy }
+    requires star { frontier.now.graph ≡ star.now }
+    ensures { IsCaller frontier.now caller.new.seat caller.new.busy }
+{
+    let said = take(frontier, caller);
+    if caller.busy {
+        finish(alloc, frontier, star, caller)?;
+    }
+    Ok(said)
+}
+
 /// Threads offer the numbers up to the last, for each id that they finish, and each finishes so many ids at
-/// most. Says whether the numbers are listed, each once.
+/// most. Says whether the numbers are listed, each once, and what a take then answers.
 fn offer_by<R: Threads + Sync>(
     rt: &R,
     alloc: Global,
     threads: u32,
     last: u32,
     most: u64,
-) -> Result<bool, NoMemory>
+) -> Result<(bool, Said), NoMemory>
     requires { (0 < threads) × (threads ≤ 64) × (last < 65536) }
 {
     let star = Star { last: last as u64 };
     let root = Sig::of(alloc, &[0])?;
     let (frontier, seat) = Frontier::new(alloc, &star, last + 1, threads, &root)?;
     let callers = callers(alloc, &frontier, seat, threads)?;
-    let callers = worked(rt, alloc, &frontier, &star, most, callers);
+    let mut callers = worked(rt, alloc, &frontier, &star, most, callers);
+    let Some(mut one) = callers.pop() else {
+        return Ok((false, Said::Refused));
+    };
+    let said = answered(alloc, &frontier, &star, &mut one)?;
+    callers.push(one)?;
     let listed = joined(alloc, frontier, callers)?;
-    has_each_once(alloc, &listed, last as usize + 1)
+    Ok((has_each_once(alloc, &listed, last as usize + 1)?, said))
 }
 
 #[test]
@@ -568,13 +591,16 @@ fn callers_halt(rt: HostRuntime) -> Result<(), Fail> {
 
 #[test]
 fn threads_close_one_graph(rt: HostRuntime) -> Result<(), Fail> {
-    assert_eq!(rt; offer_by(&rt, rt.alloc(), 2, 100, 101)?, true);
-    assert_eq!(rt; offer_by(&rt, rt.alloc(), 4, 100, 101)?, true);
+    for threads in [2, 4] {
+        let found = offer_by(&rt, rt.alloc(), threads, 100, 101)?;
+        assert_eq!(rt; found, (true, Said::Quiet));
+    }
     Ok(())
 }
 
 #[test]
 fn eight_threads_offer_the_same(rt: HostRuntime) -> Result<(), Fail> {
-    assert_eq!(rt; offer_by(&rt, rt.alloc(), 8, 10_000, 1)?, true);
+    let (each_once, _) = offer_by(&rt, rt.alloc(), 8, 10_000, 1)?;
+    assert!(rt; each_once);
     Ok(())
 }
