@@ -1,6 +1,6 @@
 """The heading and the legend of a picture."""
 
-from pictures.svg import INDEX_SIZE, TINTS, text_width
+from pictures.svg import AT_BOUNDARY, INDEX_SIZE, INSIDE, text_width
 
 LINE = 26
 SIZE = 15
@@ -54,8 +54,11 @@ def samples(picture, listing, columns):
         found.append((wall_sample(picture, 'boundary'), 'boundary wall'))
     if any(facet.neighbour is not None for facet in facets):
         found.append((wall_sample(picture, 'inner'), 'inner wall'))
-    tints = '' if len(listing.chambers) == 1 else '; tints only tell neighbours apart'
-    found.append((number_sample(picture, TINTS[0]), f'chamber{tints}'))
+    at_boundary = [chamber.meets_boundary() for chamber in listing.chambers]
+    if any(at_boundary):
+        found.append((number_sample(picture, AT_BOUNDARY), 'chamber at the boundary'))
+    if not all(at_boundary):
+        found.append((number_sample(picture, INSIDE), 'chamber inside'))
     if columns:
         found.append((column_sample(picture), 'ray of the columns with these indices'))
     return found

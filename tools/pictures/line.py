@@ -2,7 +2,7 @@
 
 from pictures.labels import spread
 from pictures.legend import draw_heading, draw_legend, heading, named, samples
-from pictures.svg import INDEX_SIZE, TINTS, Picture, index_size, place, text_width
+from pictures.svg import INDEX_SIZE, Picture, index_size, place, text_width, tint_of
 from shared.command import Refusal
 
 WIDTH = 1000
@@ -26,7 +26,7 @@ def draw(listing, columns):
     draw_heading(picture, listing, MARGIN)
     end = zero + side * (END - MARGIN)
     picture.region('M' + 'L'.join(map(place, ((zero, LINE - 22), (end, LINE - 22), (end + 22 * side, LINE),
-                                              (end, LINE + 22), (zero, LINE + 22)))), TINTS[0],
+                                              (end, LINE + 22), (zero, LINE + 22)))), tint_of(listing.chambers[0]),
                    named(listing.chambers[0]))
     picture.segments('leader', [((zero, LINE), (end + 22 * side, LINE))])
     picture.segments('boundary', [((zero, LINE - 22), (zero, LINE + 22))])

@@ -5,13 +5,15 @@ from math import atan2, cos, hypot, sin
 
 from pictures.labels import largest_box, spread
 from pictures.legend import draw_heading, draw_legend, heading, named, samples
-from pictures.svg import (DIGIT_HEIGHT, DIGIT_WIDTH, INDEX_SIZE, TINTS, Picture, index_size, place, shown,
-                          text_width)
+from pictures.svg import (DIGIT_HEIGHT, DIGIT_WIDTH, INDEX_SIZE, Picture, index_size, place, shown,
+                          text_width, tint_of)
 from shared.command import Refusal
 from shared.linear import dot, primitive, turn
 
 WIDTH = 1000
 MARGIN = 60
+# Chambers that overlap have outlines and are seen through.
+OUTLINE = '.chamber{stroke:#555;stroke-width:1.1;fill-opacity:.75}'
 TOP = 70
 LARGEST_WIDTH = 740
 LARGEST_HEIGHT = 620
@@ -36,7 +38,8 @@ def draw(listing, columns):
     labels = set_apart(labels)
     left, high, right, low = extent([label.box() for label in labels] + [(corner, 8, 8) for corner in frame.corners])
     width = max(WIDTH, right - left + MARGIN)
-    picture = Picture(width, heading(listing))
+    overlap = any(sector.level for sector in sectors)
+    picture = Picture(width, heading(listing), [OUTLINE] * overlap)
     draw_heading(picture, listing, MARGIN)
     picture.begin(((width - left - right) / 2, TOP - high))
     draw_sectors(picture, frame, sectors)
@@ -162,10 +165,10 @@ def vector_text(vector):
 
 def draw_sectors(picture, frame, sectors):
     """Draws the chambers level by level, with their walls and, where they fit, their numbers."""
-    for order, sector in sorted(enumerate(sectors), key=lambda item: item[1].level):
+    for sector in sorted(sectors, key=lambda sector: sector.level):
         right, left = (place(frame.far(ray, sector.outer)) for ray in (sector.right, sector.left))
         picture.region(f'M0,0L{right}A{shown(sector.outer)},{shown(sector.outer)} 0 0 0 {left}',
-                       TINTS[(2 * sector.level + order % 2) % len(TINTS)], named(sector.chamber))
+                       tint_of(sector.chamber), named(sector.chamber))
     walls = {False: {}, True: {}}
     for sector in sectors:
         for facet in sector.chamber.facets:

@@ -1,12 +1,11 @@
 """The picture of a listing of rank 3: the slice of the weight cone by a plane."""
 
-from heapq import heapify, heappop, heappush
 from math import hypot, sqrt
 
 from pictures.labels import beside, largest_box, overlap
 from pictures.legend import draw_heading, draw_legend, heading, named, samples
 from pictures.sections import Section, polygon_of
-from pictures.svg import DIGIT_HEIGHT, DIGIT_WIDTH, INDEX_SIZE, TINTS, Picture, index_size, place, shown
+from pictures.svg import DIGIT_HEIGHT, DIGIT_WIDTH, INDEX_SIZE, Picture, index_size, place, shown, tint_of
 from shared.fans import why_no_fan
 
 WIDTH = 1000
@@ -25,10 +24,9 @@ def draw(listing, columns):
     styles = [f'.inner{{stroke-width:{shown(inner_width(len(polygons)))}}}'] + ['.chamber{opacity:.6}'] * bool(reason)
     picture = Picture(WIDTH, heading(listing), styles)
     draw_heading(picture, listing, MARGIN)
-    fills = colours(listing)
     for chamber, polygon in zip(listing.chambers, polygons):
         picture.region('M' + 'L'.join(place(points[ray]) for ray in polygon),
-                       TINTS[fills[chamber.number] % len(TINTS)], named(chamber))
+                       tint_of(chamber), named(chamber))
     draw_walls(picture, listing, points)
     numbers = [number_box(chamber, [points[ray] for ray in polygon])
                for chamber, polygon in zip(listing.chambers, polygons)]
@@ -56,36 +54,6 @@ def positions(section, vectors):
 def inner_width(count):
     """How wide inner walls are drawn where there are this many chambers."""
     return min(1.2, max(0.3, 12 / sqrt(count)))
-
-
-def colours(listing):
-    """A tint's number for each chamber's number, other than those of its neighbours.
-
-    The chamber with the fewest neighbours is taken away until none is left, and then each comes back with the first
-    tint that is free. Neighbours in the plane need six tints at most so.
-    """
-    neighbours = {chamber.number: set() for chamber in listing.chambers}
-    for first, second in listing.edges():
-        neighbours[first].add(second)
-        neighbours[second].add(first)
-    left = {number: len(others) for number, others in neighbours.items()}
-    queue = [(count, number) for number, count in left.items()]
-    heapify(queue)
-    order = []
-    while queue:
-        count, number = heappop(queue)
-        if left.get(number) != count:
-            continue
-        order.append(number)
-        del left[number]
-        for other in neighbours[number] & left.keys():
-            left[other] -= 1
-            heappush(queue, (left[other], other))
-    tints = {}
-    for number in reversed(order):
-        taken = {tints.get(other) for other in neighbours[number]}
-        tints[number] = next(tint for tint in range(len(neighbours) + 1) if tint not in taken)
-    return tints
 
 
 def draw_walls(picture, listing, points):

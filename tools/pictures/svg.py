@@ -3,8 +3,9 @@
 FONT = 'DejaVu Sans,Verdana,Arial,sans-serif'
 INK = '#1a1a1a'
 COLUMN_INK = '#0a3a82'
-# Light tints, each darker than the one before, so that neighbours differ in grey and for the colour-blind.
-TINTS = ['#fdf4d0', '#cfe6f5', '#f5c9a0', '#a5d2c4', '#c3b0dc', '#86abd6']
+# The tints of chambers with a boundary facet and of those without, which differ in grey and for the colour-blind.
+AT_BOUNDARY = '#fdf4d0'
+INSIDE = '#c4dff2'
 # The width of a digit of the font, and the height of its digits, for a font of size 1.
 DIGIT_WIDTH = 0.64
 DIGIT_HEIGHT = 0.74
@@ -20,6 +21,11 @@ STYLES = [
     f'.index{{fill:{COLUMN_INK};font-weight:bold;text-anchor:middle}}',
     f'.plate{{fill:#fff;stroke:{COLUMN_INK};stroke-width:1}}',
 ]
+
+
+def tint_of(chamber):
+    """The tint of a chamber."""
+    return AT_BOUNDARY if chamber.meets_boundary() else INSIDE
 
 
 def shown(value):
