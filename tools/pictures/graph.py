@@ -2,7 +2,7 @@
 
 from math import atan2, cos, hypot, pi, sin
 
-from pictures.legend import draw_heading, draw_legend, heading, named, wall_sample
+from pictures.legend import CROSSED, draw_heading, draw_legend, heading, is_marked, named, wall_sample
 from pictures.svg import AT_BOUNDARY, DIGIT_HEIGHT, DIGIT_WIDTH, INSIDE, Picture, place, shown
 
 WIDTH = 1000
@@ -19,9 +19,9 @@ SWEEPS = 12
 def draw(listing, _columns):
     """The picture of a listing of rank 4 or more. Columns are not drawn."""
     neighbours = {chamber.number: [] for chamber in listing.chambers}
-    for first, second in listing.edges():
-        neighbours[first].append(second)
-        neighbours[second].append(first)
+    for edge in listing.edges():
+        neighbours[edge.first].append(edge.second)
+        neighbours[edge.second].append(edge.first)
     rings = rings_of(neighbours)
     radii = radii_of(rings)
     unit = min(LARGEST_UNIT, (WIDTH / 2 - MARGIN) / (radii[-1] + 1))
@@ -31,17 +31,26 @@ def draw(listing, _columns):
     points = {number: (middle[0] + unit * radius * sin(angles[number]), middle[1] - unit * ups[number])
               for ring, radius in zip(rings, radii) for number in ring}
     node = Node(unit, len(str(len(points))))
-    picture = Picture(WIDTH, heading(listing), [f'.inner{{stroke-width:{shown(min(1.1, node.width / 24))}}}'])
+    styles = [f'.inner{{stroke-width:{shown(min(1.1, node.width / 24))}}}']
+    picture = Picture(WIDTH, heading(listing), styles, is_marked(listing))
     draw_heading(picture, listing, MARGIN)
-    draw_edges(picture, listing.edges(), points, middle, unit)
+    for kind, matched in (('inner', True), ('unmatched', False)):
+        pairs = [(edge.first, edge.second) for edge in listing.edges() if edge.matched == matched]
+        draw_edges(picture, kind, pairs, points, middle, unit)
     for chamber in listing.chambers:
-        node.draw(picture, points[chamber.number], chamber.number, chamber.meets_boundary(), named(chamber))
+        node.draw(picture, points[chamber.number], chamber.number, chamber.meets_boundary(), named(chamber),
+                  chamber.crossed is not None)
     sample = Node(36, 1)
+    marks = []
+    if listing.unmatched():
+        marks.append((wall_sample(picture, 'unmatched'), 'inner facet that is not shared whole'))
+    if listing.crossed():
+        marks.append((lambda centre: sample.draw(picture, centre, 1, False, 'a chamber', True), CROSSED))
     height = draw_legend(
         picture, MARGIN, middle[1] + unit * (1 - min(ups.values())) + 40, WIDTH - MARGIN,
         [(wall_sample(picture, 'inner'), 'inner facet between two chambers'),
          (lambda centre: sample.draw(picture, centre, 1, True, 'a chamber'), 'chamber with a boundary facet'),
-         (lambda centre: sample.draw(picture, centre, 1, False, 'a chamber'), 'chamber without')],
+         (lambda centre: sample.draw(picture, centre, 1, False, 'a chamber'), 'chamber without')] + marks,
         [f'In the middle stands chamber {rings[0][0]}, and a ring has the chambers that are as many inner facets away '
          'from it.'])
     return picture.text(height)
@@ -55,10 +64,10 @@ class Node:
         self.height = self.width * 0.64
         self.size = min(0.8 * self.width / (DIGIT_WIDTH * digits), 0.66 * self.height / DIGIT_HEIGHT)
 
-    def draw(self, picture, centre, number, at_boundary, title):
+    def draw(self, picture, centre, number, at_boundary, title, crossed=False):
         """Draws the box at a point."""
         corner, tint, line = (0, AT_BOUNDARY, 0.07) if at_boundary else (self.height / 2, INSIDE, 0.025)
-        picture.box(centre, self.width, self.height, corner, tint, title, line * self.width)
+        picture.box(centre, self.width, self.height, corner, tint, title, line * self.width, crossed)
         picture.write(centre, number, self.size, 'middle')
 
 
@@ -142,7 +151,7 @@ def spread_on(ring, wanted, angles):
     angles.update({number: (turned + step * index) % (2 * pi) for index, number in enumerate(ring)})
 
 
-def draw_edges(picture, edges, points, middle, unit):
+def draw_edges(picture, kind, edges, points, middle, unit):
     """Draws the edges between rings as straight lines, and those within a ring as arcs outside of it."""
     straight, arcs = [], ''
     for first, second in edges:
@@ -152,9 +161,9 @@ def draw_edges(picture, edges, points, middle, unit):
             straight.append((start, end))
         else:
             arcs += f'M{place(start)}Q{place(outside(start, end, middle, far, unit))} {place(end)}'
-    picture.segments('inner', straight)
+    picture.segments(kind, straight)
     if arcs:
-        picture.path('inner', arcs)
+        picture.path(kind, arcs)
 
 
 def outside(start, end, middle, radius, unit):

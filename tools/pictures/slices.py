@@ -3,7 +3,7 @@
 from math import hypot, sqrt
 
 from pictures.labels import beside, largest_box, overlap
-from pictures.legend import draw_heading, draw_legend, heading, named, samples
+from pictures.legend import draw_heading, draw_legend, heading, is_marked, named, samples
 from pictures.sections import Section, polygon_of
 from pictures.svg import DIGIT_HEIGHT, DIGIT_WIDTH, INDEX_SIZE, Picture, index_size, place, shown, tint_of
 from shared.fans import why_no_fan
@@ -22,11 +22,11 @@ def draw(listing, columns):
     points = positions(section, {ray for polygon in polygons for ray in polygon} | set(columns))
     reason = why_no_fan(listing)
     styles = [f'.inner{{stroke-width:{shown(inner_width(len(polygons)))}}}'] + ['.chamber{opacity:.6}'] * bool(reason)
-    picture = Picture(WIDTH, heading(listing), styles)
+    picture = Picture(WIDTH, heading(listing), styles, is_marked(listing))
     draw_heading(picture, listing, MARGIN)
     for chamber, polygon in zip(listing.chambers, polygons):
         picture.region('M' + 'L'.join(place(points[ray]) for ray in polygon),
-                       tint_of(chamber), named(chamber))
+                       tint_of(chamber), named(chamber), chamber.crossed is not None)
     draw_walls(picture, listing, points)
     numbers = [number_box(chamber, [points[ray] for ray in polygon])
                for chamber, polygon in zip(listing.chambers, polygons)]
@@ -57,13 +57,13 @@ def inner_width(count):
 
 
 def draw_walls(picture, listing, points):
-    """Draws each wall once, those of the boundary over the inner ones."""
-    walls = {False: {}, True: {}}
+    """Draws each wall once: those of the boundary over the unmatched ones, and these over the other inner ones."""
+    walls = {'inner': {}, 'unmatched': {}, 'boundary': {}}
     for chamber in listing.chambers:
         for facet in chamber.facets:
-            walls[facet.neighbour is None][tuple(chamber.rays_on(facet))] = True
-    for kind, at_boundary in (('inner', False), ('boundary', True)):
-        picture.segments(kind, [tuple(points[ray] for ray in ends) for ends in walls[at_boundary]])
+            walls[facet.kind()][tuple(chamber.rays_on(facet))] = True
+    for kind, of_kind in walls.items():
+        picture.segments(kind, [tuple(points[ray] for ray in ends) for ends in of_kind])
 
 
 def number_box(chamber, polygon):
