@@ -1,12 +1,11 @@
 """The picture of a listing of rank 3: the slice of the weight cone by a plane."""
 
-from heapq import heapify, heappop, heappush
 from math import hypot, sqrt
 
 from pictures.labels import beside, largest_box, overlap
-from pictures.legend import draw_heading, draw_legend, heading, named, samples
+from pictures.legend import draw_heading, draw_legend, heading, is_marked, named, samples
 from pictures.sections import Section, polygon_of
-from pictures.svg import DIGIT_HEIGHT, DIGIT_WIDTH, INDEX_SIZE, TINTS, Picture, index_size, place, shown
+from pictures.svg import DIGIT_HEIGHT, DIGIT_WIDTH, INDEX_SIZE, Picture, index_size, place, shown, tint_of
 from shared.fans import why_no_fan
 
 WIDTH = 1000
@@ -23,12 +22,11 @@ def draw(listing, columns):
     points = positions(section, {ray for polygon in polygons for ray in polygon} | set(columns))
     reason = why_no_fan(listing)
     styles = [f'.inner{{stroke-width:{shown(inner_width(len(polygons)))}}}'] + ['.chamber{opacity:.6}'] * bool(reason)
-    picture = Picture(WIDTH, heading(listing), styles)
+    picture = Picture(WIDTH, heading(listing), styles, is_marked(listing))
     draw_heading(picture, listing, MARGIN)
-    fills = colours(listing)
     for chamber, polygon in zip(listing.chambers, polygons):
         picture.region('M' + 'L'.join(place(points[ray]) for ray in polygon),
-                       TINTS[fills[chamber.number] % len(TINTS)], named(chamber))
+                       tint_of(chamber), named(chamber), chamber.crossed is not None)
     draw_walls(picture, listing, points)
     numbers = [number_box(chamber, [points[ray] for ray in polygon])
                for chamber, polygon in zip(listing.chambers, polygons)]
@@ -58,44 +56,14 @@ def inner_width(count):
     return min(1.2, max(0.3, 12 / sqrt(count)))
 
 
-def colours(listing):
-    """A tint's number for each chamber's number, other than those of its neighbours.
-
-    The chamber with the fewest neighbours is taken away until none is left, and then each comes back with the first
-    tint that is free. Neighbours in the plane need six tints at most so.
-    """
-    neighbours = {chamber.number: set() for chamber in listing.chambers}
-    for first, second in listing.edges():
-        neighbours[first].add(second)
-        neighbours[second].add(first)
-    left = {number: len(others) for number, others in neighbours.items()}
-    queue = [(count, number) for number, count in left.items()]
-    heapify(queue)
-    order = []
-    while queue:
-        count, number = heappop(queue)
-        if left.get(number) != count:
-            continue
-        order.append(number)
-        del left[number]
-        for other in neighbours[number] & left.keys():
-            left[other] -= 1
-            heappush(queue, (left[other], other))
-    tints = {}
-    for number in reversed(order):
-        taken = {tints.get(other) for other in neighbours[number]}
-        tints[number] = next(tint for tint in range(len(neighbours) + 1) if tint not in taken)
-    return tints
-
-
 def draw_walls(picture, listing, points):
-    """Draws each wall once, those of the boundary over the inner ones."""
-    walls = {False: {}, True: {}}
+    """Draws each wall once: those of the boundary over the unmatched ones, and these over the other inner ones."""
+    walls = {'inner': {}, 'unmatched': {}, 'boundary': {}}
     for chamber in listing.chambers:
         for facet in chamber.facets:
-            walls[facet.neighbour is None][tuple(chamber.rays_on(facet))] = True
-    for kind, at_boundary in (('inner', False), ('boundary', True)):
-        picture.segments(kind, [tuple(points[ray] for ray in ends) for ends in walls[at_boundary]])
+            walls[facet.kind()][tuple(chamber.rays_on(facet))] = True
+    for kind, of_kind in walls.items():
+        picture.segments(kind, [tuple(points[ray] for ray in ends) for ends in of_kind])
 
 
 def number_box(chamber, polygon):

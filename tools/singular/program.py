@@ -3,6 +3,7 @@
 from shared.command import Refusal, quoted
 from shared.grading import LARGEST_ENTRY, MOST_COLUMNS, MOST_ROWS
 from singular.expressions import Variables, expression, within_limits
+from singular.passing import Passing
 from singular.tokens import Tokens
 
 COEFFICIENTS = ('0', '32003', 'QQ', 'ZZ', 'integer', 'ZZ/32003')
@@ -19,20 +20,48 @@ class Program:
         self.matrix_line = None
         self.generators = None
         self.lines = []
+        self.names = set()
+        self.passing = Passing(self.tokens)
         readers = {'ring': self.read_ring, 'ideal': self.read_ideal, 'intmat': self.read_matrix,
                    'bigintmat': self.read_matrix, 'matrix': self.read_matrix, 'LIB': self.read_library,
                    'option': self.read_option, 'echo': self.read_setting, 'short': self.read_setting,
                    'printlevel': self.read_setting}
-        while self.tokens.next().kind != 'end':
-            if self.tokens.next().text not in readers:
-                self.tokens.refuse()
-            readers[self.tokens.take().text]()
-            self.tokens.needs(';')
+        block = False
+        while self.tokens.next().kind != 'end' and not (block and self.tokens.takes('}')):
+            if not block and self.opens_block():
+                block = True
+            elif self.tokens.next().text not in readers or self.is_weight():
+                self.passing.statement(self.fixed())
+            else:
+                readers[self.tokens.take().text]()
+                self.tokens.needs(';')
+        if self.tokens.next().kind != 'end':
+            self.tokens.refuse()
         if self.rows is None:
             raise Refusal('no matrix of degrees is declared')
         if self.generators is None:
             raise Refusal('no ideal is declared')
         self.check_variables()
+
+    def opens_block(self):
+        """Takes the head of an example of a library, if the text is one, and says whether it is."""
+        if self.tokens.next().text != 'example':
+            return False
+        self.tokens.take()
+        self.tokens.needs('{')
+        return True
+
+    def is_weight(self):
+        """Whether a `bigintmat` comes after the matrix: gitfan.lib has its weights so, and its matrix as an `intmat`."""
+        return self.tokens.next().text == 'bigintmat' and self.rows is not None
+
+    def fixed(self):
+        """The names of the ring, its variables, the matrix and the ideal, which nothing that is passed over may declare."""
+        return self.names | {name.split('(')[0] for name in self.variables.names or ('T',)}
+
+    def name(self):
+        """Takes the name of a ring, a matrix or an ideal."""
+        self.names.add(self.tokens.take_kind('word'))
 
     def read_library(self):
         """Passes over the name of a library."""
@@ -53,7 +82,7 @@ class Program:
         """Reads the ring: its coefficients and its variables. The order of monomials is passed over."""
         if self.variables.declared or self.generators is not None:
             self.tokens.refuse('a second ring, or a ring after the ideal')
-        self.tokens.take_kind('word')
+        self.name()
         self.tokens.needs('=')
         self.read_coefficients()
         bracket = self.tokens.next().text == '['
@@ -94,11 +123,10 @@ class Program:
         return names
 
     def read_matrix(self):
-        """Reads the matrix of degrees, row by row."""
+        """Reads the matrix of degrees, row by row. It may stand a second time as it is."""
         line = self.tokens.next().line
-        if self.rows is not None:
-            self.tokens.refuse('a second matrix')
-        self.tokens.take_kind('word')
+        earlier, again = self.rows, self.tokens.next().text in self.names
+        self.name()
         sizes = []
         for most in (MOST_ROWS, MOST_COLUMNS):
             self.tokens.needs('[')
@@ -115,6 +143,8 @@ class Program:
             raise Refusal(f'line {line}: entries needed: {rows * columns}, found: {len(entries)}')
         self.rows = [entries[start:start + columns] for start in range(0, len(entries), columns)]
         self.matrix_line = line
+        if earlier is not None and not (again and earlier == self.rows):
+            raise Refusal(f'line {line}: a second matrix')
 
     def read_entry(self):
         """Reads an entry of the matrix."""
@@ -129,7 +159,7 @@ class Program:
         """Reads the generators of the ideal. Those that are 0 modulo 32003 are left out."""
         if self.generators is not None:
             self.tokens.refuse('a second ideal')
-        self.tokens.take_kind('word')
+        self.name()
         self.generators = []
         if not self.tokens.takes('='):
             return

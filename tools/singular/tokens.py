@@ -11,7 +11,7 @@ TOKEN = re.compile(r'''
   | (?P<string> "[^"]*" )
   | (?P<word> [0-9]* [A-Za-z_@'] [A-Za-z0-9_@']* )
   | (?P<number> [0-9]+ )
-  | (?P<sign> \.\. | \*\* | [-+*/^=,;()\[\]] )
+  | (?P<sign> \.\. | \*\* | [-+*/^=,;()\[\]{}<>] )
 ''', re.VERBOSE | re.DOTALL)
 
 
