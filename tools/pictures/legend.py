@@ -4,6 +4,8 @@ from pictures.svg import INDEX_SIZE, TINTS, text_width
 
 LINE = 26
 SIZE = 15
+UNMATCHED = 'wall not shared whole'
+CROSSED = 'chamber crossed by a further cone that holds its weight'
 
 
 def counted(count, word):
@@ -13,13 +15,24 @@ def counted(count, word):
 
 def heading(listing):
     """What a listing is, in a line."""
-    return ', '.join([counted(len(listing.chambers), 'chamber'), counted(listing.cones, 'orbit cone'),
-                      counted(listing.rows, 'row'), counted(listing.columns, 'column')])
+    parts = [counted(len(listing.chambers), 'chamber'), counted(listing.cones, 'orbit cone'),
+             counted(listing.rows, 'row'), counted(listing.columns, 'column')]
+    if listing.crossed():
+        parts.append(f'{len(listing.crossed())} crossed')
+    if listing.unmatched():
+        parts.append(counted(len(listing.unmatched()), 'unmatched facet'))
+    return ', '.join(parts)
+
+
+def is_marked(listing):
+    """Whether a chamber is crossed or a facet isn't matched."""
+    return bool(listing.crossed() or listing.unmatched())
 
 
 def named(chamber):
-    """A chamber's number and its weight, in a line."""
-    return f'chamber {chamber.number}, weight {" ".join(map(str, chamber.weight))}'
+    """A chamber's number, its weight and its mark, in a line."""
+    mark = '' if chamber.crossed is None else f', crossed by cone {chamber.crossed}'
+    return f'chamber {chamber.number}, weight {" ".join(map(str, chamber.weight))}{mark}'
 
 
 def draw_heading(picture, listing, left):
@@ -50,12 +63,14 @@ def samples(picture, listing, columns):
     """The samples of what a picture of chambers has: walls, chambers and columns."""
     facets = [facet for chamber in listing.chambers for facet in chamber.facets]
     found = []
-    if any(facet.neighbour is None for facet in facets):
-        found.append((wall_sample(picture, 'boundary'), 'boundary wall'))
-    if any(facet.neighbour is not None for facet in facets):
-        found.append((wall_sample(picture, 'inner'), 'inner wall'))
+    kinds = {facet.kind() for facet in facets}
+    for kind, meaning in (('boundary', 'boundary wall'), ('inner', 'inner wall'), ('unmatched', UNMATCHED)):
+        if kind in kinds:
+            found.append((wall_sample(picture, kind), meaning))
     tints = '' if len(listing.chambers) == 1 else '; tints only tell neighbours apart'
     found.append((number_sample(picture, TINTS[0]), f'chamber{tints}'))
+    if listing.crossed():
+        found.append((number_sample(picture, TINTS[0], True), CROSSED))
     if columns:
         found.append((column_sample(picture), 'ray of the columns with these indices'))
     return found
@@ -74,9 +89,9 @@ def column_sample(picture):
     return draw
 
 
-def number_sample(picture, tint):
+def number_sample(picture, tint, crossed=False):
     """A sample of a chamber with its number."""
     def draw(centre):
-        picture.box(centre, 34, 20, 0, tint, 'a chamber')
+        picture.box(centre, 34, 20, 0, tint, 'a chamber', crossed=crossed)
         picture.write(centre, '1', SIZE, 'middle')
     return draw

@@ -1,7 +1,7 @@
 """The picture of a listing of rank 1: a line with the one chamber on it."""
 
 from pictures.labels import spread
-from pictures.legend import draw_heading, draw_legend, heading, named, samples
+from pictures.legend import draw_heading, draw_legend, heading, is_marked, named, samples
 from pictures.svg import INDEX_SIZE, TINTS, Picture, index_size, place, text_width
 from shared.command import Refusal
 
@@ -22,12 +22,12 @@ def draw(listing, columns):
     marks = marks_of(side, columns)
     zero = MARGIN + 40 if side > 0 else WIDTH - MARGIN - 40
     unit = (END - MARGIN - 40) / max(abs(value) for value in marks)
-    picture = Picture(WIDTH, heading(listing))
+    picture = Picture(WIDTH, heading(listing), marked=is_marked(listing))
     draw_heading(picture, listing, MARGIN)
     end = zero + side * (END - MARGIN)
     picture.region('M' + 'L'.join(map(place, ((zero, LINE - 22), (end, LINE - 22), (end + 22 * side, LINE),
                                               (end, LINE + 22), (zero, LINE + 22)))), TINTS[0],
-                   named(listing.chambers[0]))
+                   named(listing.chambers[0]), listing.chambers[0].crossed is not None)
     picture.segments('leader', [((zero, LINE), (end + 22 * side, LINE))])
     picture.segments('boundary', [((zero, LINE - 22), (zero, LINE + 22))])
     picture.write((zero + side * (END - MARGIN - 8), LINE - 11), '1', 18, 'middle')

@@ -4,7 +4,7 @@ from functools import cmp_to_key
 from math import atan2, cos, hypot, sin
 
 from pictures.labels import largest_box, spread
-from pictures.legend import draw_heading, draw_legend, heading, named, samples
+from pictures.legend import draw_heading, draw_legend, heading, is_marked, named, samples
 from pictures.svg import (DIGIT_HEIGHT, DIGIT_WIDTH, INDEX_SIZE, TINTS, Picture, index_size, place, shown,
                           text_width)
 from shared.command import Refusal
@@ -36,7 +36,7 @@ def draw(listing, columns):
     labels = set_apart(labels)
     left, high, right, low = extent([label.box() for label in labels] + [(corner, 8, 8) for corner in frame.corners])
     width = max(WIDTH, right - left + MARGIN)
-    picture = Picture(width, heading(listing))
+    picture = Picture(width, heading(listing), marked=is_marked(listing))
     draw_heading(picture, listing, MARGIN)
     picture.begin(((width - left - right) / 2, TOP - high))
     draw_sectors(picture, frame, sectors)
@@ -165,15 +165,16 @@ def draw_sectors(picture, frame, sectors):
     for order, sector in sorted(enumerate(sectors), key=lambda item: item[1].level):
         right, left = (place(frame.far(ray, sector.outer)) for ray in (sector.right, sector.left))
         picture.region(f'M0,0L{right}A{shown(sector.outer)},{shown(sector.outer)} 0 0 0 {left}',
-                       TINTS[(2 * sector.level + order % 2) % len(TINTS)], named(sector.chamber))
-    walls = {False: {}, True: {}}
+                       TINTS[(2 * sector.level + order % 2) % len(TINTS)], named(sector.chamber),
+                       sector.chamber.crossed is not None)
+    walls = {'inner': {}, 'unmatched': {}, 'boundary': {}}
     for sector in sectors:
         for facet in sector.chamber.facets:
             for ray in sector.chamber.rays_on(facet):
-                lengths = walls[facet.neighbour is None]
+                lengths = walls[facet.kind()]
                 lengths[ray] = max(sector.outer, lengths.get(ray, 0))
-    for kind, at_boundary in (('inner', False), ('boundary', True)):
-        lengths = sorted(walls[at_boundary].items())
+    for kind, of_kind in walls.items():
+        lengths = sorted(of_kind.items())
         picture.segments('leader', [(frame.far(ray, length), frame.far(ray, frame.radius + BESIDE / 2))
                                     for ray, length in lengths if length < frame.radius])
         picture.segments(kind, [((0, 0), frame.far(ray, length)) for ray, length in lengths])

@@ -4,7 +4,7 @@ from heapq import heapify, heappop, heappush
 from math import hypot, sqrt
 
 from pictures.labels import beside, largest_box, overlap
-from pictures.legend import draw_heading, draw_legend, heading, named, samples
+from pictures.legend import draw_heading, draw_legend, heading, is_marked, named, samples
 from pictures.sections import Section, polygon_of
 from pictures.svg import DIGIT_HEIGHT, DIGIT_WIDTH, INDEX_SIZE, TINTS, Picture, index_size, place, shown
 from shared.fans import why_no_fan
@@ -23,12 +23,12 @@ def draw(listing, columns):
     points = positions(section, {ray for polygon in polygons for ray in polygon} | set(columns))
     reason = why_no_fan(listing)
     styles = [f'.inner{{stroke-width:{shown(inner_width(len(polygons)))}}}'] + ['.chamber{opacity:.6}'] * bool(reason)
-    picture = Picture(WIDTH, heading(listing), styles)
+    picture = Picture(WIDTH, heading(listing), styles, is_marked(listing))
     draw_heading(picture, listing, MARGIN)
     fills = colours(listing)
     for chamber, polygon in zip(listing.chambers, polygons):
         picture.region('M' + 'L'.join(place(points[ray]) for ray in polygon),
-                       TINTS[fills[chamber.number] % len(TINTS)], named(chamber))
+                       TINTS[fills[chamber.number] % len(TINTS)], named(chamber), chamber.crossed is not None)
     draw_walls(picture, listing, points)
     numbers = [number_box(chamber, [points[ray] for ray in polygon])
                for chamber, polygon in zip(listing.chambers, polygons)]
@@ -65,9 +65,9 @@ def colours(listing):
     tint that is free. Neighbours in the plane need six tints at most so.
     """
     neighbours = {chamber.number: set() for chamber in listing.chambers}
-    for first, second in listing.edges():
-        neighbours[first].add(second)
-        neighbours[second].add(first)
+    for edge in listing.edges():
+        neighbours[edge.first].add(edge.second)
+        neighbours[edge.second].add(edge.first)
     left = {number: len(others) for number, others in neighbours.items()}
     queue = [(count, number) for number, count in left.items()]
     heapify(queue)
@@ -89,13 +89,13 @@ def colours(listing):
 
 
 def draw_walls(picture, listing, points):
-    """Draws each wall once, those of the boundary over the inner ones."""
-    walls = {False: {}, True: {}}
+    """Draws each wall once: those of the boundary over the unmatched ones, and these over the other inner ones."""
+    walls = {'inner': {}, 'unmatched': {}, 'boundary': {}}
     for chamber in listing.chambers:
         for facet in chamber.facets:
-            walls[facet.neighbour is None][tuple(chamber.rays_on(facet))] = True
-    for kind, at_boundary in (('inner', False), ('boundary', True)):
-        picture.segments(kind, [tuple(points[ray] for ray in ends) for ends in walls[at_boundary]])
+            walls[facet.kind()][tuple(chamber.rays_on(facet))] = True
+    for kind, of_kind in walls.items():
+        picture.segments(kind, [tuple(points[ray] for ray in ends) for ends in of_kind])
 
 
 def number_box(chamber, polygon):

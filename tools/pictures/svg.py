@@ -21,6 +21,15 @@ STYLES = [
     f'.plate{{fill:#fff;stroke:{COLUMN_INK};stroke-width:1}}',
 ]
 
+# What a picture has beside these where chambers are crossed or walls aren't matched.
+MARK_INK = '#c00000'
+MARKED_STYLES = [
+    f'.unmatched{{stroke:{MARK_INK};stroke-width:3;stroke-dasharray:9 6;fill:none}}',
+    '.crossed{fill:url(#crossed);pointer-events:none}',
+]
+HATCHING = ('<pattern id="crossed" width="10" height="10" patternUnits="userSpaceOnUse" patternTransform="rotate(45)">'
+            f'<path d="M0,0V10" stroke="{MARK_INK}" stroke-width="2.4"/></pattern>')
+
 
 def shown(value):
     """A length as text, with at most three digits after the point."""
@@ -47,11 +56,11 @@ def index_size(text, size):
 class Picture:
     """A picture that is drawn piece by piece, the later over the earlier."""
 
-    def __init__(self, width, title, styles=()):
+    def __init__(self, width, title, styles=(), marked=False):
         self.width = width
         self.title = title
-        self.styles = styles
-        self.lines = []
+        self.styles = [*styles, *(MARKED_STYLES if marked else [])]
+        self.lines = [HATCHING] if marked else []
 
     def text(self, height):
         """The SVG text of the picture, as high as this."""
@@ -70,9 +79,11 @@ class Picture:
         """What is drawn is moved no more."""
         self.lines.append('</g>')
 
-    def region(self, steps, tint, title):
-        """A filled region, bounded by a path, that tells its title to a pointer over it."""
+    def region(self, steps, tint, title, crossed=False):
+        """A filled region, bounded by a path, that tells its title to a pointer over it; hatched where it is crossed."""
         self.lines.append(f'<path class="chamber" d="{steps}Z" fill="{tint}"><title>{title}</title></path>')
+        if crossed:
+            self.lines.append(f'<path class="crossed" d="{steps}Z"/>')
 
     def path(self, kind, steps):
         """A line of this kind, as steps of a path."""
@@ -88,12 +99,15 @@ class Picture:
         x, y = map(shown, centre)
         self.lines.append(f'<circle class="{kind}" cx="{x}" cy="{y}" r="{shown(radius)}"/>')
 
-    def box(self, centre, width, height, corner, tint, title, line=1.0):
-        """A box with round corners and an outline that tells its title to a pointer over it."""
-        self.lines.append(
-            f'<rect x="{shown(centre[0] - width / 2)}" y="{shown(centre[1] - height / 2)}" width="{shown(width)}" '
-            f'height="{shown(height)}" rx="{shown(corner)}" fill="{tint}" stroke="{INK}" stroke-width="{shown(line)}">'
-            f'<title>{title}</title></rect>')
+    def box(self, centre, width, height, corner, tint, title, line=1.0, crossed=False):
+        """A box with round corners and an outline that tells its title to a pointer over it; hatched where it is
+        crossed."""
+        outline = (f'x="{shown(centre[0] - width / 2)}" y="{shown(centre[1] - height / 2)}" width="{shown(width)}" '
+                   f'height="{shown(height)}" rx="{shown(corner)}"')
+        self.lines.append(f'<rect {outline} fill="{tint}" stroke="{INK}" stroke-width="{shown(line)}">'
+                          f'<title>{title}</title></rect>')
+        if crossed:
+            self.lines.append(f'<rect class="crossed" {outline}/>')
 
     def index(self, centre, text, size):
         """The indices of columns, on a white plate."""

@@ -13,9 +13,12 @@ def why_no_fan(listing):
     by_normal = [{facet.normal: facet for facet in chamber.facets} for chamber in listing.chambers]
     for chamber in listing.chambers:
         for facet in chamber.facets:
-            if facet.neighbour is not None and not is_shared(listing, by_normal, chamber, facet):
+            if facet.kind() == 'unmatched':
                 return (f'the facet {shown(facet.normal)} of chamber {chamber.number} '
                         f'is no whole facet of chamber {facet.neighbour}')
+            if facet.neighbour is not None and not leads_back(by_normal, chamber, facet):
+                return (f'the facet {shown(facet.normal)} of chamber {chamber.number} '
+                        f'does not lead back from chamber {facet.neighbour}')
     rays = {ray for chamber in listing.chambers for ray in chamber.rays}
     boundary = {facet.normal for chamber in listing.chambers for facet in chamber.facets if facet.neighbour is None}
     for normal in sorted(boundary):
@@ -28,11 +31,9 @@ def why_no_fan(listing):
     return None
 
 
-def is_shared(listing, by_normal, chamber, facet):
-    """Whether an inner facet is a facet of the chamber behind it, with the same rays, that leads back."""
-    behind = by_normal[facet.neighbour - 1].get(negative(facet.normal))
-    return (behind is not None and behind.neighbour == chamber.number
-            and set(chamber.rays_on(facet)) == set(listing.chambers[facet.neighbour - 1].rays_on(behind)))
+def leads_back(by_normal, chamber, facet):
+    """Whether the facet turned round, of the chamber behind a matched facet, leads back."""
+    return by_normal[facet.neighbour - 1][negative(facet.normal)].neighbour == chamber.number
 
 
 def shown(vector):
