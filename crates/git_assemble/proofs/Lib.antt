@@ -5,3 +5,4 @@ pub mod OneListing
 pub mod Reaching
 pub mod Assembled
 pub mod Exists
+mod Listed

@@ -13,7 +13,8 @@ use Rattle.git_machine.specs.Signatures.{Signature}
 use Rattle.git_machine.specs.Reach.{IsOnce, IsReach, Reached}
 use Rattle.git_machine.specs.declared.successors.Found.{Found}
 use Rattle.git_plain.specs.Closing.{signatures_of}
-use Rattle.git_orbit.specs.Orbits.{Fan}
+use Rattle.git_orbit.specs.Orbits.{Fan, IsFan}
+use Rattle.git_chamber.proofs.Inner.{rays_tell}
 use Rattle.git_orbit.specs.Signatures.{IsLegal, IsSignature}
 use Rattle.git_orbit.proofs.Signatures.{one_signature}
 use Rattle.git_chamber.specs.Views.{FanChamber}
@@ -23,9 +24,9 @@ use Rattle.git_chamber.specs.declared.cell.Side.{Side}
 use Rattle.git_chamber.specs.declared.cell.Side.TheVariants.{Boundary, Inner}
 use Rattle.git_chamber.proofs.Existence.{side_exists}
 use Rattle.git_chamber.specs.declared.cell.Cell.TheVariants as cell
-use Rattle.git_chamber.proofs.Graphs.{facets_of_length, rays_of_length, reached_legal}
+use Rattle.git_chamber.proofs.Graphs.{facets_of_length, legal_numbers, rays_of_length, reached_legal}
 use Rattle.git_assemble.specs.Assembling.{AllGood}
-use Rattle.git_assemble.specs.Making.{good_cells, payloads_of, signatures_in}
+use Rattle.git_assemble.specs.Making.{good_cells, nothing, payloads_of, signatures_in}
 use Rattle.git_assemble.proofs.OneListing.{ray_lists_total}
 
 -- ---- the order of rays
@@ -51,6 +52,10 @@ module _ (fan : Fan) where
   abbrev pub GoodAt : FanChamber → Type 0
   GoodAt c = IsCell fan c.sig (cell.Good c)
 
+  -- its signature is legal
+  abbrev pub LegalAt : FanChamber → Type 0
+  LegalAt c = IsLegal fan c.sig
+
   told : (sig : Signature) (x : Cell) (c : FanChamber) → IsCell fan sig x → x ≡ cell.Good c → IsCell fan sig (cell.Good c)
   told sig x c is e = subst (IsCell fan sig) e is
 
@@ -72,20 +77,18 @@ module _ (fan : Fan) where
       (λ i. same i ∷ rest.0 i, All-cons GoodAt c cs (own_sig f.sig c here) rest.1)
 
   -- two good chambers with equal rays have one signature
-  pub same_sig : (c d : FanChamber) → GoodAt c → GoodAt d → c.rays ≡ d.rays → c.sig ≡ d.sig
-  same_sig c d p q e =
-      let w : c.weight ≡ d.weight = p.1.chamber.weight_is ∙ ap (vector_sum fan.k) e ∙ sym q.1.chamber.weight_is in
-      one_signature fan (d.weight ∷ []) c.sig d.sig (subst (λ (v : Vector). IsSignature fan (v ∷ []) c.sig) w p.1.own) q.1.own
+  pub same_sig : IsFan fan.k fan.list → (c d : FanChamber) → IsLegal fan c.sig → IsLegal fan d.sig → GoodAt c → GoodAt d → c.rays ≡ d.rays → c.sig ≡ d.sig
+  same_sig is c d l m p q e = rays_tell fan c.sig d.sig c.rays d.rays c.facets d.facets c.weight d.weight is l m p.1.chamber q.1.chamber e
 
   -- sorted by rays, with no signature twice: strictly sorted
-  pub strict : (cs : List FanChamber) → All GoodAt cs → AllPairs (λ c d. is_lt (slice_cmp (slice_cmp int_cmp) d.rays c.rays) ≡ false) cs → IsOnce (signatures_in cs)
+  pub strict : IsFan fan.k fan.list → (cs : List FanChamber) → All LegalAt cs → All GoodAt cs → AllPairs (λ c d. is_lt (slice_cmp (slice_cmp int_cmp) d.rays c.rays) ≡ false) cs → IsOnce (signatures_in cs)
       → AllPairs RaysBefore cs
-  strict cs good sorted once i j d less low =
+  strict is cs legal good sorted once i j d less low =
       let a = get_or cs i d in
       let b = get_or cs j d in
       let long = length-map cs (λ (c : FanChamber). c.sig) in
       elim (not_after a.rays b.rays (slice_cmp (slice_cmp int_cmp) a.rays b.rays) (slice_cmp (slice_cmp int_cmp) b.rays a.rays) refl (ray_lists_total.antisymm a.rays b.rays) (sorted i j d less low)) [
-        | inl e ↦ absurd (once i j [] less (omega (arith, long, low)) (sig_here cs i d (omega (arith, less, low)) ∙ same_sig a b (good i d (omega (arith, less, low))) (good j d low) e ∙ sym (sig_here cs j d low)))
+        | inl e ↦ absurd (once i j [] less (omega (arith, long, low)) (sig_here cs i d (omega (arith, less, low)) ∙ same_sig is a b (legal i d (omega (arith, less, low))) (legal j d low) (good i d (omega (arith, less, low))) (good j d low) e ∙ sym (sig_here cs j d low)))
         | inr e ↦ e
       ]
 
@@ -133,7 +136,7 @@ module _ (fan : Fan) where
   pub ready : (first : Signature) (sigs : List Signature) (c : FanChamber) → IsLegal fan first → ((s : Signature) → Reached (IsNext fan) first s → Contains sigs s) → Reached (IsNext fan) first c.sig → GoodAt c → Ready sigs c
   ready first sigs c l complete at is =
       let legal = reached_legal fan first c.sig l at in
-      let long = rays_of_length fan c.sig c.rays legal is.1.chamber.rays_are in
+      let long = rays_of_length fan c.sig c.rays (legal_numbers fan c.sig legal) is.1.chamber.rays_are in
       let entries = facets_of_length fan c.sig c.facets is.1.chamber.facets_are in
       let ns = crossings c.rays c.facets long entries in
       record {
@@ -147,12 +150,15 @@ module _ (fan : Fan) where
   pub reached_at : (first : Signature) (cs : List FanChamber) (i : ℕ) (d : FanChamber) → i < length cs → All (Reached (IsNext fan) first) (signatures_in cs) → Reached (IsNext fan) first (get_or cs i d).sig
   reached_at first cs i d low sound = subst (Reached (IsNext fan) first) (sig_here cs i d low) (sound i [] (let long = length-map cs (λ (c : FanChamber). c.sig) in omega (arith, long, low)))
 
+  -- the signatures of chambers that are reached are legal
+  pub legal_all : (first : Signature) (cs : List FanChamber) → IsLegal fan first → All (Reached (IsNext fan) first) (signatures_in cs) → All LegalAt cs
+  legal_all first cs l sound i d low = reached_legal fan first (get_or cs i d).sig l (reached_at first cs i d low sound)
+
   -- all that is reached is good
   pub good_of : (first : Signature) (cs : List FanChamber) → IsReach (IsNext fan) first (signatures_in cs) → All GoodAt cs → AllGood fan first
   good_of first cs reach good s at =
       let here = reach.complete s at in
       let long = length-map cs (λ (c : FanChamber). c.sig) in
-      let none : FanChamber = record { sig = []; rays = []; facets = []; weight = [] } in
       let low : here.0 < length cs = (let h = here.1 in omega (arith, long, h)) in
-      let same : (get_or cs here.0 none).sig ≡ s = sym (get_or-map (λ (c : FanChamber). c.sig) cs here.0 none s low) ∙ here.2 in
-      (get_or cs here.0 none, subst (λ (t : Signature). IsCell fan t (cell.Good (get_or cs here.0 none))) same (good here.0 none low))
+      let same : (get_or cs here.0 nothing).sig ≡ s = sym (get_or-map (λ (c : FanChamber). c.sig) cs here.0 nothing s low) ∙ here.2 in
+      (get_or cs here.0 nothing, subst (λ (t : Signature). IsCell fan t (cell.Good (get_or cs here.0 nothing))) same (good here.0 nothing low))

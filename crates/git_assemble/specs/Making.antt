@@ -1,18 +1,19 @@
 -- How the listing is made: the chambers of what is found, their numbers, and their sides by these.
-use Rattle.std.specs.Prelude.{◌≡◌, ℕ, ◌+◌, ◌<◌, List, map, Some, IsSome, All, slice_get}
+use Rattle.std.specs.Prelude.{◌≡◌, ◌↔◌, ℕ, ◌+◌, ◌-◌, ◌<◌, List, [], map, get_or, None, Some, IsSome, IsTrue, All, slice_get}
 use Rattle.std.specs.BTreeMap.{BTreeMap, get}
 use Rattle.git_defs.specs.Vectors.{Vector, AllOfLength}
 use Rattle.git_machine.specs.Signatures.{Signature, signature_cmp}
 use Rattle.git_machine.specs.declared.successors.Found.{Found}
 use Rattle.git_orbit.specs.Orbits.{Fan}
 use Rattle.git_orbit.specs.Signatures.{IsSignature}
-use Rattle.git_listing.specs.Listings.{Side, boundary, inner, Facet, Chamber}
+use Rattle.git_listing.specs.Listings.{Side, boundary, inner, Facet, Chamber, normals_of}
 use Rattle.git_chamber.specs.Views.{FanChamber}
 use Rattle.git_chamber.specs.Chambers.{crossing, IsInner}
+use Rattle.git_chamber.specs.Listings.{SharesWall}
 use Rattle.git_chamber.specs.declared.cell.Cell.{Cell}
 use Rattle.git_chamber.specs.declared.cell.Cell.TheVariants as cell
 use Rattle.git_assemble.specs.declared.fault.AssembleFault.{AssembleFault}
-use Rattle.git_assemble.specs.declared.fault.AssembleFault.TheVariants.{Wide, Crossed, NoMemory}
+use Rattle.git_assemble.specs.declared.fault.AssembleFault.TheVariants.{Wide, NoMemory}
 
 -- ---- what is found
 
@@ -28,7 +29,6 @@ IsGoodFound f = (c : FanChamber) × (f.payload ≡ cell.Good c)
 -- the fault says why its signature isn't good
 abbrev pub IsFaultOf : Found Cell → AssembleFault → Type 0
 IsFaultOf f (Wide sig at) = (sig ≡ f.sig) × (f.payload ≡ cell.Wide at)
-IsFaultOf f (Crossed sig weight cone) = (sig ≡ f.sig) × (f.payload ≡ cell.Crossed weight cone)
 IsFaultOf f NoMemory = Unit {0}
 
 -- that of one before which all are good
@@ -53,10 +53,19 @@ pub record IsNumbering (sigs : List Signature) (numbers : BTreeMap Signature ℕ
 abbrev pub LeadsInto : Fan → BTreeMap Signature ℕ → List Vector → Vector → Type 0
 LeadsInto fan numbers rays n = (t : Signature) → IsInner fan rays n → IsSignature fan (crossing fan.k rays n) t → IsSome (get signature_cmp numbers t)
 
--- what lies behind a facet, by the numbers
-abbrev pub IsNumberedSide : Fan → BTreeMap Signature ℕ → List Vector → Vector → Side → Type 0
-IsNumberedSide fan numbers rays n boundary = IsInner fan rays n → ⊥
-IsNumberedSide fan numbers rays n (inner number) = IsInner fan rays n × (t : Signature) × IsSignature fan (crossing fan.k rays n) t × (get signature_cmp numbers t ≡ Some number)
+-- what stands past the end of a list of chambers
+abbrev pub nothing : FanChamber
+nothing = record { sig = []; rays = []; facets = []; weight = []; crossed = None }
+
+-- the chamber with this number, from 1, shares the whole wall of a chamber with these rays
+abbrev pub Shares : List FanChamber → ℕ → List Vector → Vector → Type 0
+Shares chambers number rays n = SharesWall n rays (get_or chambers (number - 1) nothing).rays (get_or chambers (number - 1) nothing).facets
+
+-- what lies behind a facet, by the numbers of the chambers
+abbrev pub IsNumberedSide : Fan → BTreeMap Signature ℕ → List FanChamber → List Vector → Vector → Side → Type 0
+IsNumberedSide fan numbers chambers rays n boundary = IsInner fan rays n → ⊥
+IsNumberedSide fan numbers chambers rays n (inner number matched) =
+    IsInner fan rays n × (t : Signature) × IsSignature fan (crossing fan.k rays n) t × (get signature_cmp numbers t ≡ Some number) × (IsTrue matched ↔ Shares chambers number rays n)
 
 -- ---- chambers
 
@@ -67,8 +76,9 @@ pub record IsReady (fan : Fan) (numbers : BTreeMap Signature ℕ) (c : FanChambe
   pub leads : All (LeadsInto fan numbers c.rays) c.facets
 
 -- the chamber as it is listed
-pub record IsMade (fan : Fan) (numbers : BTreeMap Signature ℕ) (c : FanChamber) (l : Chamber) : Type 0 where
+pub record IsMade (fan : Fan) (numbers : BTreeMap Signature ℕ) (chambers : List FanChamber) (c : FanChamber) (l : Chamber) : Type 0 where
   pub same_rays : l.rays ≡ c.rays
   pub same_weight : l.weight ≡ c.weight
-  pub same_normals : map (λ (f : Facet). f.normal) l.facets ≡ c.facets
-  pub sides : All (λ (f : Facet). IsNumberedSide fan numbers c.rays f.normal f.side) l.facets
+  pub same_crossed : l.crossed ≡ c.crossed
+  pub same_normals : normals_of l ≡ c.facets
+  pub sides : All (λ (f : Facet). IsNumberedSide fan numbers chambers c.rays f.normal f.side) l.facets

@@ -32,7 +32,7 @@ fn count(cones: &Cones) -> u32
 ///
 /// # Errors
 ///
-/// - `Wide`, `Crossed`: the first signature in order that isn't good is so.
+/// - `Wide`: the facets of the cones of a signature are wide; the first such signature in order is named.
 /// - `NoMemory`: memory ran out.
 pub fn assemble(
     alloc: Global,
@@ -44,17 +44,19 @@ pub fn assemble(
     ensures good { (first : Signature) → IsFirstSignature graph.now first → IfOk result (λ l. AllGood graph.now.fan first) }
     ensures fault { (first : Signature) → IsFirstSignature graph.now first → IfErr result (λ f. IsAssembleFault graph.now.fan first f) }
 {
+    let cones = graph.cones();
+    let k = cones.k as u32;
     let chambers = match chambers_of(alloc, &closed.found) {
         Ok(chambers) => sorted(chambers),
         Err(fault) => return Err(fault),
     };
     let numbers = numbers_of(alloc, &chambers)?;
-    let cones = graph.cones();
-    let chambers = listed_all(alloc, cones, &numbers, chambers)?;
+    let listed = listed_all(alloc, cones, &numbers, &chambers)?;
     Ok(Listing {
-        k: cones.k as u32,
+        version: 2,
+        k,
         r: graph.r() as u32,
         cones: count(cones),
-        chambers,
+        chambers: listed,
     })
 }

@@ -5,6 +5,7 @@ mod assembling;
 mod chambers;
 mod fault;
 pub mod laws;
+mod matching;
 mod numbers;
 mod sides;
 

@@ -4,9 +4,11 @@ pub mod Few
 pub mod Graphs
 pub mod Facets
 pub mod Gatherings
+pub mod Fulls
 pub mod Cells
 pub mod Crossings
 pub mod Firsts
 pub mod Existence
 pub mod Uniqueness
 pub mod Inner
+pub mod Shared

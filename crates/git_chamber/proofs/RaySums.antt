@@ -1,17 +1,12 @@
 -- One more vector of a sum, and the sizes of sums.
-use Rattle.std.proofs.Common.{◌≡◌, ℕ, zero, suc, ◌+◌, ◌-◌, ◌*◌, ◌^◌, ◌<◌, ◌≤◌, Bool, true, false, List, [], ◌∷◌, length, drop, get_or, refl, sym, ◌∙◌, ap, arith}
-use Rattle.std.proofs.Math.IntN.{pos}
+use Rattle.std.proofs.Common.{◌≡◌, ℕ, zero, suc, ◌+◌, ◌-◌, ◌*◌, ◌^◌, ◌<◌, ◌≤◌, List, [], ◌∷◌, length, drop, get_or, refl, sym, ◌∙◌, ap, arith}
 use Rattle.std.proofs.Math.Seq.{drop-cons}
-use Rattle.std.proofs.lemmas.Bool.Decides.{Decides-int_eq}
 use Rattle.std.proofs.lemmas.Int.{ints}
-use Rattle.std.specs.Ordering.{int_eq}
-use Rattle.std.specs.Prelude.{if◌then◌else◌}
-use Rattle.git_defs.specs.Vectors.{Vector, zero_vector, plus, dot, vector_sum}
+use Rattle.git_defs.specs.Vectors.{Vector, zero_vector, plus, vector_sum}
 use Rattle.git_defs.proofs.Linear.{length-plus}
 use Rattle.git_ints.specs.Padded.{AreWithin}
 use Rattle.git_lemmas.proofs.Integers.{abs_add}
 use Rattle.git_stages.specs.Short.{IsShort}
-use Rattle.git_chamber.specs.Chambers.{on_wall}
 
 pub zero_within : (k n : ℕ) → AreWithin n (zero_vector k)
 zero_within zero n i d h = absurd (omega arith)
@@ -55,13 +50,3 @@ one_before vs j d h =
     let a : length vs - (j + 1) ≡ length vs - 1 - j = omega arith in
     let b : suc (length vs - 1 - j) ≡ length vs - j = omega arith in
     ap (λ (n : ℕ). drop n vs) a ∙ drop-cons vs (length vs - 1 - j) d (omega arith) ∙ ap (λ (n : ℕ). get_or vs (length vs - 1 - j) d ∷ drop n vs) b
-
--- ---- those on the wall
-pub on_wall_yes : (n v : Vector) (vs : List Vector) → dot n v ≡ pos 0 → on_wall n (v ∷ vs) ≡ v ∷ on_wall n vs
-on_wall_yes n v vs e = let t : int_eq (dot n v) (pos 0) ≡ true = ap (λ z. int_eq z (pos 0)) e in ap (λ b. if b then v ∷ on_wall n vs else on_wall n vs) t
-
-pub on_wall_no : (n v : Vector) (vs : List Vector) → (dot n v ≡ pos 0 → ⊥) → on_wall n (v ∷ vs) ≡ on_wall n vs
-on_wall_no n v vs off = by (int_eq (dot n v) (pos 0)) refl where
-  by : (b : Bool) → int_eq (dot n v) (pos 0) ≡ b → on_wall n (v ∷ vs) ≡ on_wall n vs
-  by true e = absurd (off ((Decides-int_eq (dot n v) (pos 0)).0 e))
-  by false e = ap (λ b. if b then v ∷ on_wall n vs else on_wall n vs) e

@@ -1,17 +1,17 @@
 -- Chambers of signatures, crossings of their walls, what is told of a signature, and where it leads.
-use Rattle.std.specs.Prelude.{◌≡◌, ◌↔◌, ◌⊎◌, ℕ, ◌<◌, List, [], ◌∷◌, ◌++◌, pos, negsuc, AllPairs, Contains, if◌then◌else◌}
-use Rattle.std.specs.Ordering.{int_eq}
-use Rattle.git_defs.specs.Vectors.{Vector, Precedes, dot, scale, units, vector_sum}
+use Rattle.std.specs.Prelude.{◌≡◌, ◌↔◌, ◌⊎◌, ℕ, ◌<◌, List, [], ◌∷◌, ◌++◌, negsuc, length, All, AllPairs, Contains, Option, Some, None}
+use Rattle.git_defs.specs.Vectors.{Vector, HasRank, Precedes, scale, units, vector_sum}
 use Rattle.git_defs.specs.Cones.{AreRays, AreFacets}
 use Rattle.git_geometry.specs.Germs.{Holds, HasNoNegative, sign_at}
-use Rattle.git_machine.specs.Signatures.{Signature, Has}
+use Rattle.git_cone_faces.specs.Faces.{on_wall}
+use Rattle.git_machine.specs.Signatures.{Signature, AreWords, Has}
 use Rattle.git_stages.specs.Wide.{IsWideAt}
 use Rattle.git_stages.specs.declared.wide.WideAt.{WideAt}
 use Rattle.git_orbit.specs.Orbits.{Fan}
-use Rattle.git_orbit.specs.Signatures.{facets_at, cone_in, IsSignature, InChamber}
+use Rattle.git_orbit.specs.Signatures.{facets_at, cone_in, width_of, IsSignature, InChamber}
 use Rattle.git_chamber.specs.Views.{FanChamber}
 use Rattle.git_chamber.specs.declared.cell.Cell.{Cell}
-use Rattle.git_chamber.specs.declared.cell.Cell.TheVariants.{Good, Wide, Crossed}
+use Rattle.git_chamber.specs.declared.cell.Cell.TheVariants.{Good, Wide}
 use Rattle.git_chamber.specs.declared.cell.Side.{Side}
 use Rattle.git_chamber.specs.declared.cell.Side.TheVariants.{Boundary, Inner}
 
@@ -19,14 +19,24 @@ use Rattle.git_chamber.specs.declared.cell.Side.TheVariants.{Boundary, Inner}
 abbrev pub first_germ : ℕ → List Vector → List Vector
 first_germ k columns = vector_sum k columns ∷ units k
 
--- the vectors at which the normal is 0
-abbrev pub on_wall : Vector → List Vector → List Vector
-on_wall n [] = []
-on_wall n (v ∷ vs) = if int_eq (dot n v) (pos 0) then v ∷ on_wall n vs else on_wall n vs
-
 -- the germ that begins in the middle of the wall and goes through it: the sum of its rays, the negated normal, then the unit vectors
 abbrev pub crossing : ℕ → List Vector → Vector → List Vector
 crossing k rays n = vector_sum k (on_wall n rays) ∷ scale (negsuc 0) n ∷ units k
+
+-- numbers of cones of the fan, one at least
+pub record IsNumbers (fan : Fan) (sig : Signature) : Type 0 where
+  pub width : length sig ≡ width_of fan
+  pub in_range : (i : ℕ) → Has sig i → i < length fan.list
+  pub member : ℕ
+  pub has_member : Has sig member
+
+-- numbers of cones, one at least, that hold k independent common vectors
+pub record IsFullSet (fan : Fan) (sig : Signature) : Type 0 where
+  pub numbers : IsNumbers fan sig
+  pub words : AreWords sig
+  pub vectors : List Vector
+  pub inside : All (InChamber fan sig) vectors
+  pub rank : HasRank fan.k vectors
 
 -- the sorted distinct facets of the signature's cones
 pub record AreWalls (fan : Fan) (sig : Signature) (walls : List Vector) : Type 0 where
@@ -54,26 +64,21 @@ pub record IsLeastDifference (a b : Signature) (n : ℕ) : Type 0 where
   pub differs : (Has a n × (Has b n → ⊥)) ⊎ (Has b n × (Has a n → ⊥))
   pub same_below : (m : ℕ) → m < n → Has a m ↔ Has b m
 
--- the chamber's weight has another signature, and this is the least number in which they differ
-pub record IsCrossed (fan : Fan) (sig : Signature) (weight : Vector) (cone : ℕ) : Type 0 where
-  pub rays : List Vector
-  pub facets : List Vector
-  pub chamber : IsChamber fan sig rays facets weight
-  pub other : Signature
-  pub signature : IsSignature fan (weight ∷ []) other
-  pub difference : IsLeastDifference sig other cone
+-- the least number in which a set differs from the signature of the weight, if there is one
+abbrev pub IsMark : Fan → Signature → Vector → Option ℕ → Type 0
+IsMark fan sig weight None = IsSignature fan (weight ∷ []) sig
+IsMark fan sig weight (Some n) = (other : Signature) × IsSignature fan (weight ∷ []) other × IsLeastDifference sig other n
 
--- the chamber of the signature, which is that of its weight
+-- the chamber of the signature, and its mark
 pub record IsGood (fan : Fan) (sig : Signature) (c : FanChamber) : Type 0 where
   pub sig_is : c.sig ≡ sig
   pub chamber : IsChamber fan sig c.rays c.facets c.weight
-  pub own : IsSignature fan (c.weight ∷ []) sig
+  pub mark : IsMark fan sig c.weight c.crossed
 
 -- what is told of a signature
 abbrev pub IsCell : Fan → Signature → Cell → Type 0
 IsCell fan sig (Good c) = IsNarrow fan sig × IsGood fan sig c
 IsCell fan sig (Wide at) = IsWideSignature fan sig at
-IsCell fan sig (Crossed weight cone) = IsNarrow fan sig × IsCrossed fan sig weight cone
 
 -- the wall goes to the inside of the weight cone, whose number is 0
 abbrev pub IsInner : Fan → List Vector → Vector → Type 0
@@ -103,7 +108,6 @@ AreCrossings fan rays (n ∷ normals) ns =
 abbrev pub LeadsOn : Fan → Cell → List Signature → Type 0
 LeadsOn fan (Good c) ns = AreCrossings fan c.rays c.facets ns
 LeadsOn fan (Wide at) ns = ns ≡ []
-LeadsOn fan (Crossed weight cone) ns = ns ≡ []
 
 -- the list of signatures to which one leads
 abbrev pub IsNext : Fan → Signature → List Signature → Type 0

@@ -1,37 +1,28 @@
 -- The laws of the graph of signatures: each has one next, and what a legal one leads to is legal.
-use Rattle.std.specs.Prelude.{◌≡◌, ℕ, ◌<◌, Bool, true, false, List, [], ◌∷◌, length, pos, negsuc, if◌then◌else◌}
+use Rattle.std.specs.Prelude.{◌≡◌, ℕ, ◌<◌, List, [], ◌∷◌, length, negsuc}
 use Rattle.std.specs.List.{All}
-use Rattle.std.specs.Ordering.{int_eq}
 use Rattle.std.proofs.Common.{◌∙◌, ap, arith, inl, inr, refl, subst, sym}
 use Rattle.std.proofs.lemmas.List.Elements.{All-cons, All-nil}
 use Rattle.git_lemmas.proofs.Members.{member_contains}
-use Rattle.git_defs.specs.Vectors.{Vector, dot, scale, vector_sum}
+use Rattle.git_defs.specs.Vectors.{Vector, scale, vector_sum}
 use Rattle.git_defs.specs.Cones.{AreRays, Dual}
 use Rattle.git_defs.proofs.Linear.{length-scale}
 use Rattle.git_defs.proofs.Lengths.{OfLength, first_of_length, more_of_length, none_of_length, of_length_all, rest_of_length}
 use Rattle.git_geometry.specs.Germs.{EndsWithUnits}
 use Rattle.git_geometry.proofs.Inside.{length-vector_sum}
 use Rattle.git_geometry.proofs.Sorted.{rays_once}
+use Rattle.git_cone_faces.specs.Faces.{on_wall}
+use Rattle.git_cone_faces.proofs.Walls.{on_wall_of_length}
 use Rattle.git_machine.specs.Signatures.{Has, Signature}
 use Rattle.git_orbit.specs.Orbits.{Fan}
 use Rattle.git_orbit.specs.Signatures.{InChamber, IsLegal, IsSignature}
 use Rattle.git_orbit.proofs.Signatures.{one_signature}
 use Rattle.git_chamber.specs.Views.{FanChamber}
-use Rattle.git_chamber.specs.Chambers.{AreCrossings, IsCell, IsChamber, IsCrossed, IsGood, IsNext, LeadsOn, crossing, on_wall}
+use Rattle.git_chamber.specs.Chambers.{AreCrossings, IsCell, IsChamber, IsGood, IsNext, IsNumbers, LeadsOn, crossing}
 use Rattle.git_chamber.specs.declared.cell.Cell.{Cell}
-use Rattle.git_chamber.specs.declared.cell.Cell.TheVariants.{Crossed, Good, Wide}
+use Rattle.git_chamber.specs.declared.cell.Cell.TheVariants.{Good, Wide}
 
 -- ---- lengths
-either_list : (P : List Vector → Type 0) (b : Bool) (xs ys : List Vector) → P xs → P ys → P (if b then xs else ys)
-either_list P true xs ys p q = p
-either_list P false xs ys p q = q
-
-on_wall_of_length : (k : ℕ) (n : Vector) (vs : List Vector) → OfLength k vs → OfLength k (on_wall n vs)
-on_wall_of_length k n [] have = have
-on_wall_of_length k n (v ∷ vs) have =
-    let rest = on_wall_of_length k n vs (rest_of_length k v vs have) in
-    either_list (OfLength k) (int_eq (dot n v) (pos 0)) (v ∷ on_wall n vs) (on_wall n vs) (more_of_length k v (on_wall n vs) (first_of_length k v vs have) rest) rest
-
 -- the germ of a crossing has vectors of k entries, and ends with the unit vectors
 pub crossing_ends : (k : ℕ) (rays : List Vector) (n : Vector) → OfLength k rays → length n ≡ k → EndsWithUnits k (crossing k rays n)
 crossing_ends k rays n have entries = record {
@@ -45,14 +36,6 @@ module _ (fan : Fan) where
   -- ---- one next
   pub same_weight : (sig : Signature) (r s f g : List Vector) (v w : Vector) → IsChamber fan sig r f v → IsChamber fan sig s g w → v ≡ w
   same_weight sig r s f g v w p q = p.weight_is ∙ ap (vector_sum fan.k) (rays_once fan.k (InChamber fan sig) r s p.rays_are q.rays_are) ∙ sym q.weight_is
-
-  -- a signature isn't both good and crossed
-  pub good_not_crossed : (sig : Signature) (c : FanChamber) (w : Vector) (n : ℕ) → IsGood fan sig c → IsCrossed fan sig w n → ⊥
-  good_not_crossed sig c w n p q =
-      let e = same_weight sig q.rays c.rays q.facets c.facets w c.weight q.chamber p.chamber in
-      let own : IsSignature fan (w ∷ []) sig = subst (λ (v : Vector). IsSignature fan (v ∷ []) sig) (sym e) p.own in
-      let same = one_signature fan (w ∷ []) q.other sig q.signature own in
-      elim q.difference.differs [ inl d ↦ d.1 (subst (λ (s : Signature). Has s n) (sym same) d.0) | inr d ↦ d.1 (subst (λ (s : Signature). Has s n) same d.0) ]
 
   pub one_list : (rays normals : List Vector) (a b : List Signature) → AreCrossings fan rays normals a → AreCrossings fan rays normals b → a ≡ b
   one_list rays [] a b p q = p ∙ sym q
@@ -77,19 +60,17 @@ module _ (fan : Fan) where
   same_next : (sig : Signature) (c d : Cell) (a b : List Signature) → IsCell fan sig c → IsCell fan sig d → LeadsOn fan c a → LeadsOn fan d b → a ≡ b
   same_next sig (Good c) (Good d) a b p q f g = good_same sig c d a b p.1 q.1 f g
   same_next sig (Good c) (Wide at) a b p q f g = absurd (p.0 at q)
-  same_next sig (Good c) (Crossed w n) a b p q f g = absurd (good_not_crossed sig c w n p.1 q.1)
   same_next sig (Wide at) (Good d) a b p q f g = absurd (q.0 at p)
   same_next sig (Wide at) (Wide other) a b p q f g = f ∙ sym g
-  same_next sig (Wide at) (Crossed w n) a b p q f g = f ∙ sym g
-  same_next sig (Crossed v m) (Good d) a b p q f g = absurd (good_not_crossed sig d v m q.1 p.1)
-  same_next sig (Crossed v m) (Wide at) a b p q f g = f ∙ sym g
-  same_next sig (Crossed v m) (Crossed w n) a b p q f g = f ∙ sym g
 
   pub one_next : (sig : Signature) (a b : List Signature) → IsNext fan sig a → IsNext fan sig b → a ≡ b
   one_next sig a b p q = same_next sig p.0 q.0 a b p.1 q.1 p.2 q.2
 
   -- ---- what a legal signature leads to is legal
-  pub rays_have : (sig : Signature) (rays : List Vector) → IsLegal fan sig → AreRays fan.k (InChamber fan sig) rays → OfLength fan.k rays
+  pub legal_numbers : (sig : Signature) → IsLegal fan sig → IsNumbers fan sig
+  legal_numbers sig l = record { width = l.is.width; in_range = λ i has. ((l.is.each i).0 has).0; member = l.member; has_member = l.has_member }
+
+  pub rays_have : (sig : Signature) (rays : List Vector) → IsNumbers fan sig → AreRays fan.k (InChamber fan sig) rays → OfLength fan.k rays
   rays_have sig rays l p = record { each = λ v m. (((p.each v).0 (member_contains v rays m)).edge.member l.member l.has_member).entries }
 
   pub facets_have : (sig : Signature) (facets : List Vector) → AreRays fan.k (Dual fan.k (InChamber fan sig)) facets → OfLength fan.k facets
@@ -116,9 +97,8 @@ module _ (fan : Fan) where
   legal_on : (sig : Signature) (c : Cell) (ns : List Signature) → IsLegal fan sig → IsCell fan sig c → LeadsOn fan c ns → All (IsLegal fan) ns
   legal_on sig (Good c) ns l p f =
       legal_list c.rays c.facets ns (let low = ((l.is.each l.member).0 l.has_member).0 in omega (arith, low))
-      (rays_have sig c.rays l p.1.chamber.rays_are) (facets_have sig c.facets p.1.chamber.facets_are) f
+      (rays_have sig c.rays (legal_numbers sig l) p.1.chamber.rays_are) (facets_have sig c.facets p.1.chamber.facets_are) f
   legal_on sig (Wide at) ns l p f = subst (All (IsLegal fan)) (sym f) (All-nil (IsLegal fan))
-  legal_on sig (Crossed w n) ns l p f = subst (All (IsLegal fan)) (sym f) (All-nil (IsLegal fan))
 
   pub next_legal : (sig : Signature) (ns : List Signature) → IsLegal fan sig → IsNext fan sig ns → All (IsLegal fan) ns
   next_legal sig ns l p = legal_on sig p.0 ns l p.1 p.2

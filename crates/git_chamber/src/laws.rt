@@ -14,10 +14,16 @@ ghost use Rattle.git_chamber.specs.Laws.{
   RaysTellTheSignature,
   InnerFacetLeadsOn,
   IndependentVectorsMakeLegal,
-  LegalHasIndependentVectors,
+  CrossedConeIsAnother,
+  HoldingOfTheRays,
+  RaysMakeAFullSet,
+  LegalIsFull,
+  ChamberIsTheIntersection,
+  SharedWallIsOneFace,
+  MarkIsTheLeastFurtherCone,
 };
 
-/// Each legal signature is good, wide or crossed.
+/// Each set of full dimension is good or wide.
 pub fn signature_has_a_cell()
     ensures { SignatureHasACell }
 {}
@@ -27,7 +33,7 @@ pub fn signature_has_one_cell()
     ensures { SignatureHasOneCell }
 {}
 
-/// Each legal signature leads to some list of signatures.
+/// Each set of full dimension leads to some list of signatures.
 pub fn signature_has_a_next()
     ensures { SignatureHasANext }
 {}
@@ -67,17 +73,17 @@ pub fn weight_is_inside()
     ensures { WeightIsInside }
 {}
 
-/// The cones that hold the weight of a good signature are those of the signature.
+/// The cones that hold the weight of a set without a mark are the set.
 pub fn weight_tells_the_signature()
     ensures { WeightTellsTheSignature }
 {}
 
-/// Two good signatures whose chambers have one list of rays are equal.
+/// Two legal signatures whose chambers have one list of rays are equal.
 pub fn rays_tell_the_signature()
     ensures { RaysTellTheSignature }
 {}
 
-/// An inner facet of a legal signature's chamber leads to a legal signature.
+/// An inner facet of a chamber of full dimension leads to a legal signature.
 pub fn inner_facet_leads_on()
     ensures { InnerFacetLeadsOn }
 {}
@@ -87,7 +93,38 @@ pub fn independent_vectors_make_legal()
     ensures { IndependentVectorsMakeLegal }
 {}
 
-/// The cones of a legal signature hold vectors of full rank, and there is one cone at least.
-pub fn legal_has_independent_vectors()
-    ensures { LegalHasIndependentVectors }
+/// A legal signature has full dimension.
+pub fn legal_is_full()
+    ensures { LegalIsFull }
+{}
+
+/// The mark of a chamber is a cone that isn't in the set, and that holds the weight.
+pub fn crossed_cone_is_another()
+    ensures { CrossedConeIsAnother }
+{}
+
+/// A legal signature has the cones that hold each of its chamber's rays.
+pub fn holding_of_the_rays()
+    ensures { HoldingOfTheRays }
+{}
+
+/// The cones that hold vectors of full rank, if there are any, are a set of full dimension.
+pub fn rays_make_a_full_set()
+    ensures { RaysMakeAFullSet }
+{}
+
+/// A chamber is the intersection of the cones that contain it.
+pub fn chamber_is_the_intersection()
+    ensures { ChamberIsTheIntersection }
+{}
+
+/// Its mark is the least number of a cone that holds its weight and does not contain it.
+pub fn mark_is_the_least_further_cone()
+    ensures { MarkIsTheLeastFurtherCone }
+{}
+
+/// A wall is matched exactly where the other chamber has the facet turned round, and the two have one face
+/// there.
+pub fn shared_wall_is_one_face()
+    ensures { SharedWallIsOneFace }
 {}

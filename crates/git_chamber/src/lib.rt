@@ -1,6 +1,7 @@
 //! Chambers of signatures, crossings of their walls, and the graph that they make.
 #![tactic(auto)]
 
+mod around;
 mod cell;
 mod crossing;
 mod describing;
@@ -11,6 +12,7 @@ pub mod laws;
 mod sums;
 mod walls;
 
+pub use around::holding;
 pub use cell::{Cell, Chamber, ChamberFault, Side};
 pub use crossing::{behind, cross};
 pub use describing::chamber;

@@ -3,7 +3,7 @@ ghost use Rattle.std.specs.Prelude.{◌≡◌, ◌≤◌, ◌^◌, length, All};
 ghost use Rattle.git_defs.specs.Vectors.{vector_sum, zero_vector};
 ghost use Rattle.git_ints.specs.Padded.{AreWithin};
 ghost use Rattle.git_stages.specs.Short.{IsShort};
-ghost use Rattle.git_chamber.specs.Chambers.{on_wall};
+ghost use Rattle.git_cone_faces.specs.Faces.{on_wall};
 
 use git_ints::IVec;
 use git_stages::is_level;

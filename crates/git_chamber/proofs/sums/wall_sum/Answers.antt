@@ -1,8 +1,9 @@
 use Rattle.std.proofs.Common.{◌≡◌, ◌-◌, ◌+◌, ◌<◌, ◌∙◌, ◌∷◌, ap, drop, false, length, List, sym, subst, true, arith}
 use Rattle.git_defs.specs.Vectors.{Vector}
 use Rattle.git_stages.specs.Short.{IsShort}
-use Rattle.git_chamber.specs.Chambers.{on_wall}
-use Rattle.git_chamber.proofs.RaySums.{IsSum, one_before, on_wall_yes, on_wall_no, sum_more, sum_skips}
+use Rattle.git_cone_faces.specs.Faces.{on_wall}
+use Rattle.git_cone_faces.proofs.Walls.{on_wall_no, on_wall_yes}
+use Rattle.git_chamber.proofs.RaySums.{IsSum, one_before, sum_more, sum_skips}
 use Rattle.git_chamber.proofs.sums.wall_sum.Goals as goal
 use Rattle.git_chamber.proofs.sums.wall_sum.Goals.{then-is_level, else-is_level}
 

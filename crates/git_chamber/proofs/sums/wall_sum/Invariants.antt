@@ -1,5 +1,5 @@
 use Rattle.std.proofs.Common.{◌-◌, drop, length}
-use Rattle.git_chamber.specs.Chambers.{on_wall}
+use Rattle.git_cone_faces.specs.Faces.{on_wall}
 use Rattle.git_chamber.proofs.RaySums.{IsSum}
 use Rattle.git_chamber.proofs.sums.wall_sum.Given as goal
 

@@ -1,0 +1,4 @@
+pub mod Faces
+pub mod Families
+pub mod Filters
+pub mod Laws
