@@ -33,12 +33,12 @@ Decided P = P ⊎ (P → ⊥)
 
 both : (P Q : Type 0) → Decided P → Decided Q → Decided (P × Q)
 both P Q (inl p) (inl q) = inl (p, q)
-both P Q (inl p) (inr no) = inr (λ h. no h.1)
-both P Q (inr no) q = inr (λ h. no h.0)
+both P Q (inl p) (inr fails) = inr (λ h. fails h.1)
+both P Q (inr fails) q = inr (λ h. fails h.0)
 
 opposite : (P : Type 0) → Decided P → Decided (P → ⊥)
-opposite P (inl p) = inr (λ no. no p)
-opposite P (inr no) = inl no
+opposite P (inl p) = inr (λ fails. fails p)
+opposite P (inr fails) = inl fails
 
 -- the first of a list that lacks a property, or all have it
 first_or_all : (P : Polynomial → Type 0) → ((p : Polynomial) → Decided (P p)) → (ps : List Polynomial) → All P ps ⊎ ((n : ℕ) × FirstLacks P ps n)
@@ -46,13 +46,13 @@ first_or_all P decide [] = inl (All-nil P)
 first_or_all P decide (p ∷ ps) = by (decide p) (first_or_all P decide ps)
   where
     before : (place : ℕ) → P p → ((k : ℕ) → k < place → P (member ps k)) → (k : ℕ) → k < suc place → P (member (p ∷ ps) k)
-    before place yes early zero h = yes
-    before place yes early (suc k) h = early k (omega arith)
+    before place holds early zero h = holds
+    before place holds early (suc k) h = early k (omega arith)
 
     by : Decided (P p) → All P ps ⊎ ((n : ℕ) × FirstLacks P ps n) → All P (p ∷ ps) ⊎ ((n : ℕ) × FirstLacks P (p ∷ ps) n)
-    by (inr no) rest = inr (1, record { place = 0; number = omega arith; within = omega arith; lacks = no; before = λ k h. absurd (omega arith) })
-    by (inl yes) (inl all) = inl (All-cons P p ps yes all)
-    by (inl yes) (inr f) = inr (suc f.0, record { place = suc f.1.place; number = omega (arith, f.1.number); within = omega (arith, f.1.within); lacks = f.1.lacks; before = before f.1.place yes f.1.before })
+    by (inr fails) rest = inr (1, record { place = 0; number = omega arith; within = omega arith; lacks = fails; before = λ k h. absurd (omega arith) })
+    by (inl holds) (inl all) = inl (All-cons P p ps holds all)
+    by (inl holds) (inr f) = inr (suc f.0, record { place = suc f.1.place; number = omega (arith, f.1.number); within = omega (arith, f.1.within); lacks = f.1.lacks; before = before f.1.place holds f.1.before })
 
 -- polynomials
 is_zero : (p : Polynomial) → Decided (p ≡ zero_polynomial)
@@ -67,7 +67,7 @@ are_same p q = by (is_zero (minus p q))
   where
     by : Decided (minus p q ≡ zero_polynomial) → Decided (p ≡ q)
     by (inl z) = inl ((zero_difference p q).0 z)
-    by (inr no) = inr (λ e. no ((zero_difference p q).1 e))
+    by (inr fails) = inr (λ e. fails ((zero_difference p q).1 e))
 
 terms_in : (mask : ℕ) (s : Sum) → Decided (All (λ t. IsTrue (in_face mask t.0)) s)
 terms_in mask [] = inl (All-nil (λ (t : Exponents × ℕ). IsTrue (in_face mask t.0)))
@@ -75,7 +75,7 @@ terms_in mask (t ∷ s) = by (in_face mask t.0) refl (terms_in mask s)
   where
     by : (b : Bool) → in_face mask t.0 ≡ b → Decided (All (λ u. IsTrue (in_face mask u.0)) s) → Decided (All (λ u. IsTrue (in_face mask u.0)) (t ∷ s))
     by true e (inl all) = inl (All-cons (λ (u : Exponents × ℕ). IsTrue (in_face mask u.0)) t s e all)
-    by true e (inr no) = inr (λ all. no (λ k d h. all (suc k) d (omega arith)))
+    by true e (inr fails) = inr (λ all. fails (λ k d h. all (suc k) d (omega arith)))
     by false e rest = inr (λ all. let here : in_face mask t.0 ≡ true = all 0 t (omega arith) in let two : true ≡ false = sym here ∙ e in cc)
 
 is_low : (p : Polynomial) (n : ℕ) → Decided (total_degree p ≤ n)
@@ -98,16 +98,16 @@ is_cofactor : (mask : ℕ) (h : Polynomial) → Decided (IsCofactor mask h)
 is_cofactor mask h = by (both (IsInFace mask h) (total_degree h ≤ 33554432) (terms_in mask h.terms) (is_low h 33554432))
   where
     by : Decided (IsInFace mask h × (total_degree h ≤ 33554432)) → Decided (IsCofactor mask h)
-    by (inl yes) = inl (record { variables = yes.0; small = yes.1 })
-    by (inr no) = inr (λ c. no (c.variables, c.small))
+    by (inl holds) = inl (record { variables = holds.0; small = holds.1 })
+    by (inr fails) = inr (λ c. fails (c.variables, c.small))
 
 is_member : (mask : ℕ) (g : Polynomial) → Decided (IsMember mask g)
 is_member mask g = by (both (g ≢ zero_polynomial) (IsInFace (mask + 65536) g) (opposite (g ≡ zero_polynomial) (is_zero g)) (terms_in (mask + 65536) g.terms)) (both ((c : ℕ) → lead_of g ≢ Some (one, c)) (total_degree g ≤ 33554432) (is_unit g) (is_low g 33554432))
   where
     by : Decided ((g ≢ zero_polynomial) × IsInFace (mask + 65536) g) → Decided (((c : ℕ) → lead_of g ≢ Some (one, c)) × (total_degree g ≤ 33554432)) → Decided (IsMember mask g)
     by (inl a) (inl b) = inl (record { nonzero = a.0; variables = a.1; no_unit = b.0; small = b.1 })
-    by (inl a) (inr no) = inr (λ m. no (m.no_unit, m.small))
-    by (inr no) b = inr (λ m. no (m.nonzero, m.variables))
+    by (inl a) (inr fails) = inr (λ m. fails (m.no_unit, m.small))
+    by (inr fails) b = inr (λ m. fails (m.nonzero, m.variables))
 
 -- divisions
 divides : (members : List Polynomial) (f : Polynomial) → Decided (DividesToZero members f)
@@ -118,7 +118,7 @@ divides members f = by (has_division members f)
       where
         at : Decided (d.rest ≡ zero_polynomial) → Decided (DividesToZero members f)
         at (inl z) = inl ((to_zero members f d.quotients d.rest d.is_division).1 z)
-        at (inr no) = inr (λ h. no ((to_zero members f d.quotients d.rest d.is_division).0 h))
+        at (inr fails) = inr (λ h. fails ((to_zero members f d.quotients d.rest d.is_division).0 h))
 
 pair : (members : List Polynomial) (i j : ℕ) → Decided (PairDivides members i j)
 pair members i j = by (lead_of (member members i)) (lead_of (member members j)) refl refl
@@ -129,8 +129,8 @@ pair members i j = by (lead_of (member members i)) (lead_of (member members j)) 
     by (Some t) (Some u) a b = at (divides members (s_of (member members i) (member members j) t u))
       where
         at : Decided (DividesToZero members (s_of (member members i) (member members j) t u)) → Decided (PairDivides members i j)
-        at (inl yes) = inl (λ s h. subst (DividesToZero members) (one_s_polynomial (member members i) (member members j) (s_of (member members i) (member members j) t u) s (s_of_is (member members i) (member members j) t u a b) h) yes)
-        at (inr no) = inr (λ all. no (all (s_of (member members i) (member members j) t u) (s_of_is (member members i) (member members j) t u a b)))
+        at (inl holds) = inl (λ s h. subst (DividesToZero members) (one_s_polynomial (member members i) (member members j) (s_of (member members i) (member members j) t u) s (s_of_is (member members i) (member members j) t u a b) h) holds)
+        at (inr fails) = inr (λ all. fails (all (s_of (member members i) (member members j) t u) (s_of_is (member members i) (member members j) t u a b)))
 
 -- the first partner of a member below a bound, or all pass
 partner : (members : List Polynomial) (i n : ℕ) → n ≤ length members → ((l : ℕ) → i < l → l < n → PairDivides members i l) ⊎ ((j : ℕ) × FirstPartner members i j)
@@ -140,8 +140,8 @@ partner members i (suc n) h = by (partner members i n (omega arith)) (cases_lt i
     by : ((l : ℕ) → i < l → l < n → PairDivides members i l) ⊎ ((j : ℕ) × FirstPartner members i j) → (i < n) ⊎ (n ≤ i) → Decided (PairDivides members i n) → ((l : ℕ) → i < l → l < suc n → PairDivides members i l) ⊎ ((j : ℕ) × FirstPartner members i j)
     by (inr f) order decided = inr f
     by (inl all) (inr late) decided = inl (λ l a b. absurd (omega arith))
-    by (inl all) (inl early) (inl yes) = inl (λ l a b. one_partner members i n all yes l a (omega arith))
-    by (inl all) (inl early) (inr no) = inr (n, record { order = early; within = omega arith; lacks = no; before = all })
+    by (inl all) (inl early) (inl holds) = inl (λ l a b. one_partner members i n all holds l a (omega arith))
+    by (inl all) (inl early) (inr fails) = inr (n, record { order = early; within = omega arith; lacks = fails; before = all })
 
 -- the first pair with its first place below a bound, or all pass
 pairs : (members : List Polynomial) (n : ℕ) → ((k m : ℕ) → k < n → k < m → m < length members → PairDivides members k m) ⊎ ((i : ℕ) × (j : ℕ) × FirstPairLacks members i j)
@@ -164,7 +164,7 @@ some_monomial generators mask exponent cofactors = elim (cases_eq (length cofact
     product : length cofactors ≡ length generators → All (IsCofactor mask) cofactors → Decided (combination cofactors (map (restricted mask) generators) ≡ monomial (power (face_monomial mask) exponent)) → (exponent ≤ 1048576) ⊎ (1048576 < exponent) → (a : Accepted) × IsMonomialAnswer generators mask exponent cofactors a
     product even all (inl sum) (inl small) = (Yes, record { one_each = even; cofactors_are = all; small = small; sum = sum })
     product even all (inl sum) (inr large) = (No Product, λ e. (all, λ small. absurd (omega arith)))
-    product even all (inr no) size = (No Product, λ e. (all, λ small. no))
+    product even all (inr fails) size = (No Product, λ e. (all, λ small. fails))
 
     lines : length cofactors ≡ length generators → All (IsCofactor mask) cofactors ⊎ ((n : ℕ) × FirstLacks (IsCofactor mask) cofactors n) → (a : Accepted) × IsMonomialAnswer generators mask exponent cofactors a
     lines even (inr f) = (No (Member f.0), (even, f.1))
@@ -178,7 +178,7 @@ some_free generators mask members = first (first_or_all (IsMember mask) (is_memb
     last pass clear (inr f) = (No (Pair f.0 f.1), (pass, clear, f.2))
 
     third : GeneratorsPass generators mask members → Decided (DividesToZero members (clearing (face_monomial mask))) → (a : Accepted) × IsFreeAnswer generators mask members a
-    third pass (inr no) = (No Clear, (pass, no))
+    third pass (inr fails) = (No Clear, (pass, fails))
     third pass (inl clear) = last pass clear (pairs members (length members))
 
     second : All (IsMember mask) members → All (λ f. DividesToZero members (restricted mask f)) generators ⊎ ((n : ℕ) × FirstLacks (λ f. DividesToZero members (restricted mask f)) generators n) → (a : Accepted) × IsFreeAnswer generators mask members a
