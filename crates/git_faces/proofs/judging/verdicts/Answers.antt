@@ -9,7 +9,7 @@ pub settled-requires-clause-seen : goal.settled-requires-clause-seen
 settled-requires-clause-seen g c = seen_next _ _ _ _ _ c.loop-one.invariant c.in-Some.one c.next.new.self.rest.items c.in-Some.ensures.steps.0
 
 pub loop-one-preserved : goal.loop-one-preserved
-loop-one-preserved g c = one_more _ _ _ _ _ c.loop-one.invariant c.in-Some.one c.in-Ok-verdict.verdict c.push.new.self.items c.next.new.self.rest.items c.in-Some.ensures.steps.0 c.in-Ok.ensures (search rules)
+loop-one-preserved g c = one_more _ _ _ _ _ c.loop-one.invariant c.in-Some.one c.in-Ok-settled.verdict c.push.new.self.items c.next.new.self.rest.items c.in-Some.ensures.steps.0 c.in-Ok-settled.ensures (search rules)
 
 pub returns-in-Err-clause-stopped : goal.returns-in-Err-clause-stopped
 returns-in-Err-clause-stopped g c = stops _ _ _ _ _ c.loop-one.invariant c.in-Some.one c.in-Err.fault c.next.new.self.rest.items c.in-Some.ensures.steps.0 c.in-Err.ensures
