@@ -16,3 +16,8 @@ pub mod Good
 pub mod EndedRuns
 pub mod Goes
 pub mod PairCounts
+pub mod Handing
+pub mod Backwards
+pub mod Forwards
+pub mod Deriving
+pub mod Effects

@@ -1,7 +1,7 @@
 -- How a run stops, step by step.
-use Rattle.std.proofs.Common.{ℕ, suc, ◌+◌, ◌<◌, ◌≤◌, ◌≡◌, refl, List, [], ◌∷◌, ◌++◌, length, sym, ◌∙◌, ap, subst, arith}
-use Rattle.git_basis.specs.Run.{State, IsMade, IsRun, IsNext, IsEnded, IsOversized, after, effect, or_nothing}
-use Rattle.git_basis.specs.Stops.{Ends, StopsBySteps, StopsByDegree}
+use Rattle.std.proofs.Common.{ℕ, suc, ◌+◌, ◌<◌, ◌≤◌, ◌≡◌, refl, List, [], ◌∷◌, ◌++◌, length, Some, sym, ◌∙◌, ap, subst, arith, inl}
+use Rattle.git_basis.specs.Elements.{Element}
+use Rattle.git_basis.specs.Run.{State, IsMade, IsRun, HasUnit, after, effect, or_nothing}
 use Rattle.git_basis.specs.declared.step.Step.{Step}
 use Rattle.git_basis.specs.declared.step.Step.TheVariants.{Take, Cancel, Keep, Drop}
 
@@ -39,3 +39,15 @@ one_more_made start now next steps more t made k m e d =
       count = omega (arith, ap (λ (ts : List Step). length ts) d, length_one_more steps t, k.count);
       members = omega (arith, k.members, members_more now t, ap (λ (s : State). length s.members) e);
     }
+
+-- a step that leaves a polynomial current leaves no lead 1
+none_is_one : (s : State) (t : Step) → IsMade s t → (e : Element) → (effect s t).current ≡ Some e → HasUnit (effect s t) → ⊥
+none_is_one s (Take i j) m e c u = m.goes_on (inl (record { place = u.place; within = u.within; is_one = u.is_one; nonzero = u.nonzero }))
+none_is_one s (Cancel l) m e c u = m.goes_on (inl (record { place = u.place; within = u.within; is_one = u.is_one; nonzero = u.nonzero }))
+none_is_one s Keep m e c u = absurd cc
+none_is_one s Drop m e c u = absurd cc
+
+-- so does a run
+pub busy_run : (s : State) (ts : List Step) → ((e : Element) → s.current ≡ Some e → HasUnit s → ⊥) → IsRun s ts → (e : Element) → (after s ts).current ≡ Some e → HasUnit (after s ts) → ⊥
+busy_run s [] none r e c u = none e c u
+busy_run s (t ∷ ts) none r e c u = busy_run (effect s t) ts (none_is_one s t r.0) r.1 e c u

@@ -5,3 +5,4 @@ pub mod Firsts
 pub mod Combinations
 pub mod Pairs
 pub mod Graded
+pub mod SomeAnswer

@@ -18,3 +18,7 @@ FreeShow = (generators : List Polynomial) (mask : ℕ) (members : List Polynomia
 -- a certificate has one answer
 abbrev pub OneAnswer : Type 0
 OneAnswer = (generators : List Polynomial) (mask : ℕ) (certificate : FaceCert) (a b : Accepted) → IsAnswer generators mask certificate a → IsAnswer generators mask certificate b → a ≡ b
+
+-- a certificate has an answer
+abbrev pub SomeAnswer : Type 0
+SomeAnswer = (generators : List Polynomial) (mask : ℕ) (certificate : FaceCert) → (a : Accepted) × IsAnswer generators mask certificate a

@@ -18,7 +18,7 @@ pub use face::{clearing_of, face_power};
 pub use judging::accept;
 pub use laws::{
     accepted_free_certificates_show_a_faces, accepted_monomial_certificates_show_none,
-    certificates_have_one_answer,
+    certificates_have_an_answer, certificates_have_one_answer,
 };
 
 #[cfg(test)]

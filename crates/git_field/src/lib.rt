@@ -7,7 +7,7 @@ ghost use Rattle.std.specs.Prelude.{◌≡◌, ◌+◌, ◌*◌, ◌-◌, ◌%�
 ghost use Rattle.std.specs.Int.{int_rem_euclid};
 ghost use Rattle.std.specs.Int.RustNames.{unsigned_abs};
 ghost use Rattle.git_field.specs.Field.{signed_of};
-ghost use Rattle.git_field.specs.Laws.{NoZeroDivisors, HasInverses};
+ghost use Rattle.git_field.specs.Laws.{NoZeroDivisors, HasInverses, InverseOfInverts};
 ghost use Rattle.git_field.specs.Prime.{IsPrime};
 
 use std::marker::Model;
@@ -145,6 +145,11 @@ pub fn no_zero_divisors()
 /// Each number other than 0 has an inverse.
 pub fn has_inverses()
     ensures { HasInverses }
+{}
+
+/// The inverse that definitions name is one: its product with the number is 1.
+pub fn inverse_of_inverts()
+    ensures { InverseOfInverts }
 {}
 
 #[cfg(test)]

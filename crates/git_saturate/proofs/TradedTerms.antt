@@ -37,25 +37,6 @@ pub traded_from : (e a : Exponents) (n : ℕ) (front product : Exponents) → fr
 unfolding traded
 traded_from e a n front product f p = λ i. times ((f ∙ without_is a) i) (p i)
 
-mapped-append : (g : Exponents → Exponents) (p : Sum) (t : Exponents × ℕ) → mapped g (p ++ t ∷ []) ≡ mapped g p ++ (g t.0, t.1) ∷ []
-mapped-append g [] t = refl
-mapped-append g (u ∷ p) t = ap (λ (s : Sum). (g u.0, u.1) ∷ s) (mapped-append g p t)
-
-pub none_traded : (e : Exponents) (n : ℕ) (p : Sum) (z : Polynomial) → z ≡ zero_polynomial → z ≡ normal (mapped (traded e n) (take 0 p))
-unfolding zero_polynomial
-none_traded e n p z is = is
-
-pub one_more_traded : (e : Exponents) (n : ℕ) (p : Sum) (i : ℕ) (t : Exponents × ℕ) (sum next more : Polynomial) (m : Exponents) → sum ≡ normal (mapped (traded e n) (take i p)) → slice_get p i ≡ Some t → m ≡ traded e n t.0 → next ≡ term_of m t.1 → more ≡ plus sum next
-    → more ≡ normal (mapped (traded e n) (take (i + 1) p))
-unfolding plus term_of
-one_more_traded e n p i t sum next more m s at is a b =
-    b ∙ (λ k. plus (s k) ((a ∙ ap (λ x. term_of x t.1) is) k))
-    ∙ same_normal (alike-append (normal_alike (mapped (traded e n) (take i p))) (normal_alike ((traded e n t.0, t.1) ∷ [])))
-    ∙ ap normal (sym (ap (mapped (traded e n)) (take_next p i t at) ∙ mapped-append (traded e n) (take i p) t))
-
-pub all_traded : (e : Exponents) (n : ℕ) (p : Polynomial) (i : ℕ) → length p.terms ≤ i → normal (mapped (traded e n) (take i p.terms)) ≡ traded_polynomial e n p
-all_traded e n p i h = ap (λ (s : Sum). normal (mapped (traded e n) s)) (take_all i p.terms h)
-
 -- greatest exponents
 greatest-append : (p : Sum) (t : Exponents × ℕ) → greatest_extra (p ++ t ∷ []) ≡ max (greatest_extra p) (extra t.0)
 greatest-append [] t = omega arith

@@ -162,17 +162,37 @@ fn a_product_of_two_variables_is_refuted(rt: HostRuntime) -> Result<(), Fail> {
     Ok(())
 }
 
-/// The steps made, where the run stops by steps.
-fn first_step(alloc: Global) -> Result<Option<Step>, Fail> {
-    match verdict(alloc, &[PLANES], 63, 1)? {
-        Err(SatFault::Steps(trace)) => Ok(trace.steps.first().copied()),
+/// T(1)^(2^20), whose product with y*T(2) is oversized.
+const HIGH: Terms = &[([1_048_576, 0, 0, 0, 0, 0], 1)];
+
+/// The step at which a run stops: the last that it made, where it stops by its steps, and the oversized
+/// one, where it stops by its degree after none.
+fn last_step(alloc: Global, generator: Terms, mask: u16) -> Result<Option<Step>, Fail> {
+    match verdict(alloc, &[generator], mask, 1)? {
+        Err(SatFault::Steps(trace)) => Ok(trace.steps.last().copied()),
+        Err(SatFault::Degree { trace, step }) => Ok(trace.steps.is_empty().then_some(step)),
         _ => Ok(None),
     }
 }
 
+/// Whether a run stops by its degree.
+fn is_oversized(alloc: Global, generator: Terms, mask: u16) -> Result<bool, Fail> {
+    match verdict(alloc, &[generator], mask, 1)? {
+        Err(SatFault::Degree { .. }) => Ok(true),
+        _ => Ok(false),
+    }
+}
+
 #[test]
-fn one_step_is_not_enough(rt: HostRuntime) -> Result<(), Fail> {
+fn runs_stop_by_steps_and_by_degree(rt: HostRuntime) -> Result<(), Fail> {
     let alloc = rt.alloc();
-    assert_eq!(rt; first_step(alloc)?, Some(Step::Take(0, 1)));
+    for (name, generator, mask, high) in [("steps", PLANES, 63, false), ("degree", HIGH, 3, true)] {
+        assert_eq!(rt;
+            last_step(alloc, generator, mask)?,
+            Some(Step::Take(0, 1)),
+            "{name}"
+        );
+        assert_eq!(rt; is_oversized(alloc, generator, mask)?, high, "{name}");
+    }
     Ok(())
 }

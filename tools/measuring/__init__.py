@@ -1,0 +1,1 @@
+"""Inputs to measure the program on, and what a run of it takes."""
