@@ -1,5 +1,5 @@
 -- Certificates are read as what is printed of them, and the other way round.
-use Rattle.std.proofs.Common.{◌≡◌, ℕ, zero, suc, ◌+◌, ◌-◌, ◌≤◌, ◌<◌, ◌^◌, Bool, true, false, cond, List, [], ◌∷◌, ◌++◌, length, map, Result, Ok, Err, refl, sym, ap, ◌∙◌, subst, append_assoc, arith}
+use Rattle.std.proofs.Common.{◌≡◌, ℕ, ◌≤◌, ◌<◌, ◌^◌, Bool, true, false, cond, List, [], ◌∷◌, ◌++◌, length, map, Result, Ok, refl, sym, ap, ◌∙◌, subst, append_assoc, arith}
 use Rattle.std.specs.Prelude.{ℤ, pos, codes, unsigned_abs}
 use Rattle.std.specs.Str.{bytes_eq}
 use Rattle.std.specs.List.{flat_map, AllByRecursion}
@@ -14,7 +14,7 @@ use Rattle.git_lines.specs.declared.fault.FormKind.TheVariants.{Syntax}
 use Rattle.git_lines.specs.Fields.{RestOfFields, fields_of, fields_in, next_field, word_field, integer_field, no_field}
 use Rattle.git_lines.specs.Lines.{RestOfText}
 use Rattle.git_lines.specs.Printing.{line_text}
-use Rattle.git_lines.specs.Reading.{◌>>=◌, lift, times, fault_at}
+use Rattle.git_lines.specs.Reading.{lift, times, fault_at}
 use Rattle.git_lines.proofs.Exact.{bind_ok, lift_ok, ok_is}
 use Rattle.git_lines.proofs.WrittenLines.{IsPlainWord, decimal_word}
 use Rattle.git_polytext.specs.Printing.{polynomial_text}
@@ -23,14 +23,14 @@ use Rattle.git_strictlines.specs.Spelling.{number_words, end_words}
 use Rattle.git_strictlines.proofs.Spelled.{Spelled, times_takes, times_again}
 use Rattle.git_strictlines.proofs.FieldSteps.{with_fields, next_takes, next_again, word_takes, word_again, none_takes, none_again, integers}
 use Rattle.git_strictlines.proofs.LinesSpelled.{LineSpelled, IsNumber, number_within, limits_of, natural_back, next_spelled, number_spelled, header_spelled, end_spelled}
-use Rattle.git_strictlines.proofs.Bytes.{IsTextLine, AreTextLines, text_lines_append, words_line, map_lines}
+use Rattle.git_strictlines.proofs.Bytes.{AreTextLines, text_lines_append, words_line, map_lines}
 use Rattle.git_strictpoly.specs.Laws.{FitsPoly}
 use Rattle.git_strictpoly.specs.Strict.{strict_polynomial}
 use Rattle.git_strictpoly.proofs.Sums.{texts_are_printed, printed_is_read}
 use Rattle.git_strictpoly.proofs.Words.{fits_plain_word}
 use Rattle.git_certtext.specs.declared.limits.TheConstants.{FACES}
-use Rattle.git_certtext.specs.Blocks.{Cert, monomial, free, Block, FitsCert, FitsBlock, FitsCerts}
-use Rattle.git_certtext.specs.CertReading.{at_line, polynomial_field, polynomial_line, Kind, members, cofactors, members_fields, cofactors_fields, kind_by, kind_fields, face_line, polynomials_at, cert_at, block_at, certs_at}
+use Rattle.git_certtext.specs.Blocks.{Cert, monomial, free, Block, FitsCert}
+use Rattle.git_certtext.specs.CertReading.{at_line, polynomial_field, polynomial_line, Kind, members, cofactors, members_fields, cofactors_fields, kind_fields, face_line, polynomials_at, cert_at, block_at, certs_at}
 
 -- ---- lines of polynomials
 

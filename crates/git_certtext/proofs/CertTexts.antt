@@ -1,5 +1,5 @@
 -- The lines of certificates joined are their text; what the reader's clauses say follows from what reading gives.
-use Rattle.std.proofs.Common.{◌≡◌, ◌⊎◌, inl, inr, ℕ, zero, suc, ◌+◌, ◌-◌, ◌*◌, ◌<◌, ◌≤◌, ◌^◌, List, [], ◌∷◌, ◌++◌, length, map, Result, Ok, Err, refl, sym, ap, ◌∙◌, subst, append_assoc, arith}
+use Rattle.std.proofs.Common.{◌≡◌, ◌⊎◌, inl, inr, ℕ, zero, suc, ◌+◌, ◌-◌, ◌<◌, ◌≤◌, ◌^◌, List, [], ◌∷◌, ◌++◌, length, Result, Ok, Err, refl, sym, ap, ◌∙◌, subst, append_assoc, arith}
 use Rattle.std.specs.Prelude.{codes}
 use Rattle.std.specs.List.{concat, flat_map, AllByRecursion}
 use Rattle.std.proofs.lemmas.List.{append-nil}
@@ -10,9 +10,9 @@ use Rattle.git_facecert.specs.declared.certificate.FaceCert.TheVariants.{Monomia
 use Rattle.git_facecert.specs.declared.certificate.FaceVerdict.{FaceVerdict}
 use Rattle.git_lines.specs.declared.fault.FormFault.{FormFault}
 use Rattle.git_lines.specs.declared.fault.FormKind.{FormKind}
-use Rattle.git_lines.specs.Lines.{RestOfText, text_from, lines_of}
+use Rattle.git_lines.specs.Lines.{text_from, lines_of}
 use Rattle.git_lines.specs.Printing.{line_text, number_line}
-use Rattle.git_lines.specs.Reading.{◌>>=◌, nothing_at, no_line}
+use Rattle.git_lines.specs.Reading.{nothing_at, no_line}
 use Rattle.git_lines.proofs.Exact.{bind_ok, ok_is}
 use Rattle.git_lines.proofs.FirstLine.{lines_make}
 use Rattle.git_strictlines.specs.declared.fault.ReadFault.{ReadFault}
@@ -26,7 +26,7 @@ use Rattle.git_certtext.specs.Faults.{certs_fault}
 use Rattle.git_certtext.specs.Blocks.{Block, cert_of, block_of, blocks_of, FitsBlock, FitsCerts}
 use Rattle.git_certtext.specs.CertificateText.{polynomial_line, cert_text, block_text, certificates_text}
 use Rattle.git_certtext.specs.CertReading.{certs_at, certs_whole, reading, IsFirstFault}
-use Rattle.git_certtext.proofs.CertSpelled.{polynomial_words, polynomial_lines, cert_lines, block_lines, certs_lines, IsBlock, AreBlocks, certs_spelled, certs_text_lines}
+use Rattle.git_certtext.proofs.CertSpelled.{polynomial_lines, cert_lines, block_lines, certs_lines, IsBlock, AreBlocks, certs_spelled, certs_text_lines}
 
 -- ---- lines joined
 

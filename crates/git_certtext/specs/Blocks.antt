@@ -1,5 +1,5 @@
 -- What a text of certificates says: blocks, and their limits.
-use Rattle.std.specs.Prelude.{◌≡◌, ℕ, ◌<◌, ◌≤◌, ◌^◌, List, length, map}
+use Rattle.std.specs.Prelude.{ℕ, ◌<◌, ◌≤◌, ◌^◌, List, length, map}
 use Rattle.std.specs.List.{AllByRecursion}
 use Rattle.git_algebra.specs.Polynomials.{Polynomial}
 use Rattle.git_facecert.specs.declared.certificate.FaceCert.{FaceCert}

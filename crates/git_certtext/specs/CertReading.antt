@@ -1,5 +1,5 @@
 -- Reading certificates from the first line on: a value and what is left, or the first fault.
-use Rattle.std.specs.Prelude.{◌≡◌, ℕ, ◌+◌, ◌-◌, ◌^◌, if◌then◌else◌, List, codes, pos, Result, Ok, Err, unsigned_abs}
+use Rattle.std.specs.Prelude.{◌≡◌, ℕ, ◌-◌, ◌^◌, if◌then◌else◌, List, codes, pos, Result, Ok, Err, unsigned_abs}
 use Rattle.std.specs.Str.{bytes_eq}
 use Rattle.git_algebra.specs.Polynomials.{Polynomial}
 use Rattle.git_facecert.specs.declared.certificate.TheConstants.{CERT_POWER, CERT_MEMBERS}

@@ -1,8 +1,7 @@
-use Rattle.std.proofs.Common.{rules, ℕ, Ok, map, ◌≡◌, ◌+◌, ◌-◌, ◌++◌, ◌∷◌, [], ap, sym, ◌∙◌, arith}
+use Rattle.std.proofs.Common.{map, ◌≡◌, ◌++◌, ◌∷◌, [], ◌∙◌}
 use Rattle.std.proofs.lemmas.Result.{err_from_is_err_and}
 use Rattle.std.proofs.lemmas.List.{map_push}
 use Rattle.git_lines.proofs.Loops.{goes_on, is_done}
-use Rattle.git_lines.specs.Views.{rest_of_text}
 use Rattle.git_strictlines.proofs.Loops.{fails_at}
 use Rattle.git_certtext.specs.Blocks.{block_of}
 use Rattle.git_certtext.proofs.blocks.blocks.Goals as goal

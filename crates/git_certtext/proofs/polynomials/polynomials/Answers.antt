@@ -1,7 +1,6 @@
-use Rattle.std.proofs.Common.{rules, ℕ, Ok, ◌≡◌, ◌+◌, ◌-◌, ◌++◌, ◌∷◌, [], ap, sym, ◌∙◌, arith}
+use Rattle.std.proofs.Common.{◌∙◌}
 use Rattle.std.proofs.lemmas.Result.{err_from_is_err_and}
 use Rattle.git_lines.proofs.Loops.{goes_on, is_done}
-use Rattle.git_lines.specs.Views.{rest_of_text}
 use Rattle.git_strictlines.proofs.Loops.{fails_at}
 use Rattle.git_certtext.proofs.polynomials.polynomials.Goals as goal
 
