@@ -1,0 +1,2 @@
+pub mod CertSpelled
+pub mod CertTexts

@@ -3,3 +3,8 @@ pub mod Listings
 pub mod Views
 pub mod ListingText
 pub mod Laws
+pub mod Faults
+pub mod Limits
+pub mod ListingReading
+pub mod HeadViews
+pub mod ReadingLaws

@@ -15,3 +15,4 @@ pub mod ReadBackInputs
 pub mod WrittenTexts
 pub mod FaultPlaces
 pub mod LaterLines
+pub mod Fronts

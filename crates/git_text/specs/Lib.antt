@@ -12,3 +12,4 @@ pub mod Reading
 pub mod Views
 pub mod Laws
 pub mod Writing
+pub mod Fronts

@@ -5,6 +5,7 @@ ghost use Rattle.git_text.specs.declared.fault.BadKind.{BadKind};
 ghost use Rattle.git_text.specs.Faults.{GivesUnlessFull, FitsUnlessFull};
 ghost use Rattle.git_input.specs.Inputs.{InputValue};
 ghost use Rattle.git_text.specs.Grammar.{IsInput};
+ghost use Rattle.git_text.specs.Fronts.{IsFront, IsFirstFrontFault};
 ghost use Rattle.git_text.specs.Reading.{rest_at, ReadsFront, Reads, IsFirstFault, variables_in};
 
 use crate::fault::InputFault;
@@ -77,4 +78,23 @@ pub fn read_input(alloc: Global, bytes: &[u8]) -> Result<Input, InputFault>
         → MatchResult result (λ x. ⊥) (λ e. (e ≡ InputFault.Bad line column kind) ⊎ (e ≡ InputFault.NoMemory)) }
 {
     read_lines(alloc, bytes)
+}
+
+/// The input at the head of the bytes, through its line `end`, and how many bytes it takes. What follows that line is not
+/// looked at.
+///
+/// `bytes` are fewer than 2^32 - 1. `Bad` where no input is at the head: the first fault, read from left to right, which is
+/// that of `read_input`. `NoMemory` where memory runs out.
+pub fn read_input_front(alloc: Global, bytes: &[u8]) -> Result<(Input, usize), InputFault>
+    requires { length bytes.now < 2 ^ 32 - 1 }
+    ensures found { IfOk result (λ x. IsFront bytes.now x.0 x.1) }
+    ensures only { (v : InputValue) (used : ℕ) → IsFront bytes.now v used → MatchResult result (λ x. (x.0 ≡ v) × (x.1 ≡ used)) (λ e. e ≡ InputFault.NoMemory) }
+    ensures fault { (line column : ℕ) (kind : BadKind) → IsErrOf result (InputFault.Bad line column kind) → IsFirstFrontFault bytes.now line column kind }
+    ensures first { (line column : ℕ) (kind : BadKind) → IsFirstFrontFault bytes.now line column kind
+        → MatchResult result (λ x. ⊥) (λ e. (e ≡ InputFault.Bad line column kind) ⊎ (e ≡ InputFault.NoMemory)) }
+{
+    let mut lines = Lines::new(bytes);
+    let input = front(alloc, &mut lines)?;
+    let left = lines.bytes.len() - lines.at;
+    Ok((input, bytes.len().saturating_sub(left)))
 }

@@ -1,4 +1,5 @@
 //! Laws of the definitions, each the contract of an empty function.
+ghost use Rattle.git_text.specs.Fronts.{OneFront, FrontFaultsAreFaults, FrontsHaveNoFault, WrittenInputsAreReadInFront};
 ghost use Rattle.git_text.specs.Laws.{OneInput, InputsAreGraded, ReadingIsTheGrammar, OneFirstFault, InputsHaveNoFault, InputOrFirstFault, FaultsLieInTheText, LaterLinesDoNotMatter, MonomialsApartAreFound, WrittenInputsAreReadBack};
 
 /// A text is one input at most.
@@ -49,4 +50,24 @@ pub fn monomials_apart_are_found()
 /// The text that is written of an input is read back as it.
 pub fn written_inputs_are_read_back()
     ensures { WrittenInputsAreReadBack }
+{}
+
+/// A text has one input at its head at most.
+pub fn one_front()
+    ensures { OneFront }
+{}
+
+/// A first fault of a text's head is the first fault of the text, and the other way round but for bytes after an input.
+pub fn front_faults_are_faults()
+    ensures { FrontFaultsAreFaults }
+{}
+
+/// A text with an input at its head has no fault there.
+pub fn fronts_have_no_fault()
+    ensures { FrontsHaveNoFault }
+{}
+
+/// The text that is written of an input is read back as it, whatever follows.
+pub fn written_inputs_are_read_in_front()
+    ensures { WrittenInputsAreReadInFront }
 {}

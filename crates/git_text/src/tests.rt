@@ -450,3 +450,31 @@ fn a_text_that_is_cut_off_is_bad(rt: HostRuntime) {
         assert_eq!(rt; fault_of(alloc, &text[..end]).is_none(), whole);
     }
 }
+
+/// What may follow an input's line feed at the end of its last line.
+const TAILS: [&[u8]; 4] = [b"", b"gitfan-listing 1\n", b"\n", b"end\n"];
+
+/// How many bytes an input at the head of a text takes.
+fn head_of(alloc: Global, text: &[u8]) -> Option<usize> {
+    if text.len() > 1000 {
+        return None;
+    }
+    match read_input_front(alloc, text) {
+        Ok((_, used)) => Some(used),
+        Err(_) => None,
+    }
+}
+
+#[test]
+fn an_input_at_the_head_of_a_text_is_read(rt: HostRuntime) -> Result<(), Fail> {
+    let alloc = rt.alloc();
+    for tail in TAILS {
+        let mut text = TEXT.to_vec(alloc)?;
+        text.extend_from_slice(tail)?;
+        assert!(rt; head_of(alloc, &text) == Some(TEXT.len()));
+    }
+    let open = &TEXT[..TEXT.len() - 1];
+    assert!(rt; head_of(alloc, open) == Some(open.len()));
+    assert!(rt; head_of(alloc, b"gitfan 2\n") == None);
+    Ok(())
+}

@@ -1,0 +1,4 @@
+//! The limits of a text of certificates.
+
+/// The most blocks.
+pub const FACES: u32 = 65_536;
