@@ -14,7 +14,7 @@ use Rattle.git_visits.specs.declared.view.Known.{Known}
 use Rattle.git_visits.specs.declared.view.Work.{Work}
 use Rattle.git_visits.specs.declared.view.Post.{Post}
 use Rattle.git_visits.specs.declared.view.Post.TheVariants.{Spent, Held}
-use Rattle.git_visits.specs.Lists.{cut, total, one, times, nonzero, has, size}
+use Rattle.git_visits.specs.Lists.{cut, total, one, times, nonzero, filled, has, size}
 use Rattle.git_visits.specs.Visits.{records, states_at, hashes_of, record_of, states_of, state_of, live, Published, Knows, places_of, work_of, freshes, hands, fresh_in, hand_in, mine_in, Ruled}
 use Rattle.git_table.specs.Listings.{rows, numbers_in, sigs_in, Listing}
 use Rattle.git_visits.proofs.Cuts.{length-cut, cut_at, one_same, one_other, nonzero_is, nonzero_not, parts_le, sum_set, total_le, times_pos, index_past}
@@ -39,6 +39,22 @@ module _ (ws : List ℕ) (states start width : ℕ) where
 
   pub rows_one : (r n : ℕ) → slice_index ws (states + r) ≢ 0 → rows_of r (suc n) ≡ here r ∷ rows_of (suc r) n
   rows_one r n z = rw (ne_eqb (slice_index ws (states + r)) 0 z) refl
+
+  -- as many as there are states
+  pub rows_filled : (n r : ℕ) → length (rows_of r n) ≡ filled (cut ws (states + r) n)
+  rows_filled zero r = refl
+  rows_filled (suc n) r =
+      let t : length (rows_of (suc r) n) ≡ filled (cut ws (suc (states + r)) n) = rows_filled n (suc r) ∙ (let e : states + suc r ≡ suc (states + r) = omega arith in ap (λ (b : ℕ). filled (cut ws b n)) e) in
+      dite (ℕ_discrete (slice_index ws (states + r)) 0)
+      (λ (z : slice_index ws (states + r) ≡ 0). let e = ap (λ (l : List (ℕ × Signature)). length l) (rows_none r n z) in let o = nonzero_not (slice_index ws (states + r)) z in omega arith)
+      (λ (z : slice_index ws (states + r) ≢ 0). let e = ap (λ (l : List (ℕ × Signature)). length l) (rows_one r n z) in let o = nonzero_is (slice_index ws (states + r)) z in omega arith)
+
+  -- the states from r on, and from behind it
+  pub filled_step : (r n : ℕ) → r < n → filled (cut ws (states + r) (n - r)) ≡ nonzero (slice_index ws (states + r)) + filled (cut ws (states + (r + 1)) (n - (r + 1)))
+  filled_step r n l =
+      let m : n - r ≡ suc (n - (r + 1)) = omega arith in
+      let e : suc (states + r) ≡ states + (r + 1) = omega arith in
+      ap (λ (k : ℕ). filled (cut ws (states + r) k)) m ∙ ap (λ (b : ℕ). nonzero (slice_index ws (states + r)) + filled (cut ws b (n - (r + 1)))) e
 
   -- what is listed already, and what is still to come
   pub listed_none : (acc all : List Signature) (r n : ℕ) → r < n → slice_index ws (states + r) ≡ 0 → acc ++ sigs_in (rows_of r (n - r)) ≡ all → acc ++ sigs_in (rows_of (r + 1) (n - (r + 1))) ≡ all
@@ -215,3 +231,11 @@ module _ {G : Type 0} (next : G → Signature → List Signature → Type 0) (s 
         by i j a b e f one (yes l) m = let t = up i j a b l e f in absurd (omega arith)
         by i j a b e f one (no l) (yes m) = let t = up j i b a m f e in absurd (omega arith)
         by i j a b e f one (no l) (no m) = omega arith
+
+-- the rows at the end, for a seat that has all places and no hand, or that was answered quiet
+module _ {G : Type 0} (next : G → Signature → List Signature → Type 0) (s : State (Unit {0}) (Post G)) (seat : ℕ) (v : Known G) (at : get_elem? s.views seat ≡ some (Held v)) where
+  pub ended : (told : Key G) → Ruled next told s → (v.key ≡ told) × (((v.places ≡ v.key.workers) × (v.work.hand ≡ None)) ⊎ (v.work.quiet ≡ 1)) → Listing next v (rows s.words (states_at told) (1 + told.hashes) told.width 0 (records told))
+  ended told h asks =
+      let h' : Ruled next v.key s = subst (λ (k : Key G). Ruled next k s) (sym asks.0) h in
+      let bare : total freshes s.views ≡ 0 = elim asks.1 as (λ _. total freshes s.views ≡ 0) [ inl t ↦ bare_alone next s seat v at h' t.0 t.1 | inr t ↦ bare_quiet next s seat v at h' t ] in
+      subst (λ (k : Key G). Listing next v (rows s.words (states_at k) (1 + k.hashes) k.width 0 (records k))) asks.0 (listing next s seat v at h' bare)

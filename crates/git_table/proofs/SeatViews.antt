@@ -1,5 +1,5 @@
 -- What a seat shows of its view, and what a call's steps tell of that.
-use Rattle.std.proofs.Common.{◌≡◌, ◌⊎◌, ℕ, zero, suc, ◌+◌, ◌-◌, ◌*◌, ◌<◌, ◌≤◌, max, List, [], ◌∷◌, ◌++◌, map, length, length-append, refl, sym, ap, ◌∙◌, subst, arith, inl, inr, ⊎_elim, Option, Some, None, mod-lt}
+use Rattle.std.proofs.Common.{◌≡◌, ◌⊎◌, ℕ, zero, suc, ◌+◌, ◌-◌, ◌*◌, ◌<◌, ◌≤◌, max, List, [], ◌∷◌, ◌++◌, map, length, length-append, refl, sym, ap, ◌∙◌, subst, arith, inl, inr, ⊎_elim, Bool, Option, Some, None, mod-lt}
 use Rattle.std.proofs.lemmas.Option.{same_Some, none-some}
 use mathlib.Core.Option.{some, some-injective, some-ne-none}
 use mathlib.Core.List.{map-append}
@@ -28,10 +28,10 @@ use Rattle.git_table.specs.declared.answers.Taken.TheVariants as taken
 use Rattle.git_table.specs.declared.answers.Hinted.{Hinted}
 use Rattle.git_table.specs.declared.answers.Hinted.TheVariants as hinted
 use Rattle.git_table.specs.Offers.{OfferSays}
-use Rattle.git_table.specs.Takes.{NotStopped, Scanned, TakeSays, HintSays}
+use Rattle.git_table.specs.Takes.{NotStopped, Scanned, TakeSays, HintSays, StopSays}
 use Rattle.git_table.specs.Views.{FrontierView, SeatView, frontier_view, known_view, post_view, stacked, IsKey, IsFrontier, IsSeat}
 use Rattle.git_table.specs.Stacks.{option_list, front_number, hand_taken, hand_hinted}
-use Rattle.git_table.specs.Calls.{IsOf, Sees, joined_seat, state_word, live_word, stop_word, HandLeads, ScannedFrom, OfferTells, TakeTells, HintTells}
+use Rattle.git_table.specs.Calls.{IsOf, Sees, joined_seat, state_word, live_word, stop_word, HandLeads, ScannedFrom, OfferTells, TakeTells, HintTells, StopTells}
 
 module _ {G : Type 0} where
   same_key : (k l : Key G) → IsKey k → IsKey l → (z y : TableId) → frontier_view z k ≡ frontier_view y l → k ≡ l
@@ -67,6 +67,9 @@ module _ {G : Type 0} where
       pub hint_tells : (id : ℕ) (r : Hinted) → HintSays v p id r → HintTells (frontier_view z v.key) (known_view z v) (post_view y p) id r
       hint_tells id (hinted.Work n) t = (t.0, shows _ t.1 ∙ (ap (λ (m : ℕ). record (known_view z v) { hand = Some m; looks = (state_at v.key m, 1) ∷ v.looks }) t.0 ∙ ap (λ (i : ℕ). record (known_view z v) { hand = Some id; looks = (i, 1) ∷ v.looks }) (state_is id)))
       hint_tells id hinted.Gone t = (t.0, t.1, shows _ t.2 ∙ ap (λ (i : ℕ). record (known_view z v) { looks = (i, t.0) ∷ v.looks }) (state_is id))
+
+      pub stop_tells : (r : Bool) → StopSays v p r → StopTells (frontier_view z v.key) (known_view z v) (post_view y p) r
+      stop_tells r t = (t.0, t.1, shows _ t.2 ∙ ap (λ (i : ℕ). record (known_view z v) { looks = (i, t.0) ∷ v.looks }) stop_is)
 
       -- what extends a view shows the same
       extended : (u w : Known G) → Extends u w → p ≡ Held w → post_view y p ≡ known_view z u

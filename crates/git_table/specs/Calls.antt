@@ -1,5 +1,5 @@
 -- What a call tells of its seat: s is the seat before it, and t after it.
-use Rattle.std.specs.Prelude.{◌≡◌, ◌≢◌, ℕ, ◌+◌, ◌*◌, ◌<◌, ◌≤◌, max, List, [], ◌∷◌, ◌++◌, length, Some, None}
+use Rattle.std.specs.Prelude.{◌≡◌, ◌≢◌, ◌↔◌, ℕ, ◌+◌, ◌*◌, ◌<◌, ◌≤◌, max, List, [], ◌∷◌, ◌++◌, length, Some, None, Bool, IsTrue}
 use Rattle.std.specs.List.{All, AllPairs}
 use mathlib.Core.Option.{some}
 use lib.ListN.{get_elem?}
@@ -79,6 +79,9 @@ module _ {G : Type 0} where
   abbrev pub HintTells : FrontierView G → SeatView G → SeatView G → ℕ → Hinted → Type 0
   HintTells f s t id (hinted.Work n) = (n ≡ id) × (t ≡ record s { hand = Some id; looks = (state_word f id, 1) ∷ s.looks })
   HintTells f s t id hinted.Gone = (x : ℕ) × (x ≢ 1) × (t ≡ record s { looks = (state_word f id, x) ∷ s.looks })
+
+  abbrev pub StopTells : FrontierView G → SeatView G → SeatView G → Bool → Type 0
+  StopTells f s t r = (y : ℕ) × (IsTrue r ↔ (y ≡ 1)) × (t ≡ record s { looks = (stop_word f, y) ∷ s.looks })
 
   -- the ids that are published, ascending, and their signatures
   pub record IsListing (next : Signature → List Signature → Type 0) (f : FrontierView G) (s : SeatView G) (ids : List ℕ) (sigs : List Signature) : Type 0 where

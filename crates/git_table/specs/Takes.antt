@@ -1,5 +1,5 @@
 -- What a take says. Its own looks are those in front of the old ones.
-use Rattle.std.specs.Prelude.{◌≡◌, ◌≢◌, ℕ, ◌+◌, ◌<◌, ◌≤◌, List, [], ◌∷◌, ◌++◌, Some}
+use Rattle.std.specs.Prelude.{◌≡◌, ◌≢◌, ◌↔◌, ℕ, ◌+◌, ◌<◌, ◌≤◌, List, [], ◌∷◌, ◌++◌, Some, Bool, IsTrue}
 use Rattle.git_visits.specs.declared.view.Known.{Known}
 use Rattle.git_visits.specs.declared.view.Post.{Post}
 use Rattle.git_visits.specs.declared.view.Post.TheVariants.{Held}
@@ -26,6 +26,9 @@ module _ {G : Type 0} where
   abbrev pub HintSays : Known G → Post G → ℕ → Hinted → Type 0
   HintSays v p id (hinted.Work n) = (n ≡ id) × (p ≡ Held (record v { work = record v.work { hand = Some n }; looks = (state_at v.key n, 1) ∷ v.looks }))
   HintSays v p id hinted.Gone = (x : ℕ) × (x ≢ 1) × (p ≡ Held (Looks v ((state_at v.key id, x) ∷ [])))
+
+  abbrev pub StopSays : Known G → Post G → Bool → Type 0
+  StopSays v p r = (y : ℕ) × (IsTrue r ↔ (y ≡ 1)) × (p ≡ Held (Looks v ((stop_at v.key, y) ∷ [])))
 
   abbrev pub TakeSays : Known G → Post G → Taken → Type 0
   TakeSays v p (taken.Work id) = (n : ℕ) × (added : List (ℕ × ℕ)) × Scanned v n (id + 1) added × (id < records v.key) × (p ≡ Held (record v { work = record v.work { hand = Some id }; looks = (state_at v.key id, 1) ∷ (added ++ v.looks) }))

@@ -9,7 +9,7 @@ ghost use Rattle.git_table.specs.Listings.{IsRoom, rows, sigs_in, Listing, Excee
 ghost use Rattle.git_visits.specs.declared.view.Known.{Known};
 ghost use Rattle.git_visits.specs.declared.view.Post.TheVariants.{Held};
 ghost use Rattle.git_visits.specs.Cuttings.{kept_half, given_half, joined};
-ghost use Rattle.git_visits.specs.Lists.{cut};
+ghost use Rattle.git_visits.specs.Lists.{cut, filled};
 
 use crate::steps::{TableSeat, bound_word};
 use crate::visited::Visited;
@@ -66,6 +66,21 @@ fn sig_at(room: Vec<u64>, closed: &Closed<(), Global>, start: usize, width: usiz
     Sig::of_words(words_at(room, closed, start, width))
 }
 
+// How many records have a state.
+fn counted(closed: &Closed<(), Global>, states: usize, records: usize) -> usize
+    requires full { IsFull closed.now.words }
+    requires inside { (states + records ≤ slots_len closed.now.words) × (states + records < 2 ^ 40) }
+    ensures { result ≡ filled (cut (slots_items closed.now.words) states records) }
+{
+    let mut count = 0;
+    for r in 0..records {
+        if closed.word(states + r) != 0 {
+            count += 1;
+        }
+    }
+    count
+}
+
 // The signatures of the records that have a state, in the memory that was taken for them.
 fn listed(
     memory: (Vec<Sig>, Vec<Vec<u64>>),
@@ -77,7 +92,7 @@ fn listed(
 ) -> Vec<Sig>
     requires full { IsFull closed.now.words }
     requires inside { (states ≡ start + records * width) × (states + records ≤ slots_len closed.now.words) × (states + records < 2 ^ 40) }
-    requires memory { (memory.0.items ≡ []) × (records ≤ vec_capacity memory.0) × ((length memory.1.items ≡ records) × All (IsRoom width) memory.1.items) }
+    requires memory { (memory.0.items ≡ []) × (length memory.1.items ≤ vec_capacity memory.0) × ((length memory.1.items ≡ filled (cut (slots_items closed.now.words) states records)) × All (IsRoom width) memory.1.items) }
     ensures { result.items ≡ sigs_in (rows (slots_items closed.now.words) states start width 0 records) }
 {
     let (mut sigs, mut rooms) = memory;
@@ -124,7 +139,26 @@ impl<G: Successors> Visited<G> {
         bound_word(&self.table.shared, seat);
     }
 
-    /// All published signatures. It takes its memory before it closes the table.
+    /// How many signatures are published.
+    pub fn count(self, seat: TableSeat<G>) -> usize
+        requires own { seat.table_id ≡ self.table.shared.table_id }
+        requires view { Holds seat (λ v. (v.key ≡ self.table.shared.key) × (((v.places ≡ v.key.workers) × (v.work.hand ≡ None)) ⊎ (v.work.quiet ≡ 1))) }
+        ensures { (v : Known G) → seat.me.0 ≡ Held v → (rs : List (ℕ × Signature)) × (result ≡ length rs) × Listing G.next v rs }
+    {
+        let Visited {
+            table,
+            records,
+            width: _,
+            hashes: _,
+            states,
+        } = self;
+        let closed = table.close_with(seat);
+        let count = counted(&closed, states, records);
+        closed.free();
+        count
+    }
+
+    /// All published signatures. It takes memory for as many, before it reads the first.
     pub fn close(self, alloc: Global, seat: TableSeat<G>) -> Result<Vec<Sig>, NoMemory>
         requires own { seat.table_id ≡ self.table.shared.table_id }
         requires view { Holds seat (λ v. (v.key ≡ self.table.shared.key) × (((v.places ≡ v.key.workers) × (v.work.hand ≡ None)) ⊎ (v.work.quiet ≡ 1))) }
@@ -137,8 +171,11 @@ impl<G: Successors> Visited<G> {
             hashes,
             states,
         } = self;
-        let memory = memory(alloc, records, width)?;
         let closed = table.close_with(seat);
+        let Ok(memory) = memory(alloc, counted(&closed, states, records), width) else {
+            closed.free();
+            return Err(NoMemory);
+        };
         let sigs = listed(memory, &closed, states, 1 + hashes, width, records);
         closed.free();
         Ok(sigs)

@@ -2,7 +2,7 @@
 ghost use Rattle.std.specs.Prelude.{◌≡◌, ◌⊎◌, ◌<◌, ◌≤◌, ◌+◌, ◌-◌, ◌*◌, ◌^◌, ℕ, List, [], ◌∷◌, length, IfOk, Some, None};
 ghost use Rattle.git_machine.specs.Signatures.{Signature};
 ghost use Rattle.git_machine.specs.Reach.{LeadsTo, Reached, ReachExceeds};
-ghost use Rattle.git_table.specs.Calls.{IsOf, Sees, room, first_seat, joined_seat, HandLeads, OfferTells, TakeTells, HintTells, IsListing};
+ghost use Rattle.git_table.specs.Calls.{IsOf, Sees, room, first_seat, joined_seat, HandLeads, OfferTells, TakeTells, HintTells, StopTells, IsListing};
 
 use crate::answers::{Hinted, Listed, Offer, Taken};
 use crate::seat::{Seat, hinted_hand, taken_hand};
@@ -155,6 +155,14 @@ impl<G: Successors> Frontier<G> {
         hinted
     }
 
+    /// Whether a caller said that all are to stop. A take looks at that by itself.
+    pub fn stopped(&self, seat: &mut Seat<G>) -> bool
+        requires of { IsOf self.now seat.old }
+        ensures { StopTells self.now seat.old seat.new result }
+    {
+        self.visited.stopped(&mut seat.raw)
+    }
+
     /// Writes the words of the signature of an id that is seen or in hand. The buffer has the width of the
     /// graph.
     pub fn read(&self, seat: &mut Seat<G>, id: u32, out: &mut [u64])
@@ -187,13 +195,30 @@ impl<G: Successors> Frontier<G> {
         self.visited.halt(&mut seat.raw);
     }
 
+    /// How many signatures are published, for a seat that has all places and no hand, or that was answered
+    /// `Quiet`. It takes no memory.
+    pub fn count(self, seat: Seat<G>) -> usize
+        requires of { IsOf self seat }
+        requires whole { ((seat.places ≡ self.workers) × (seat.hand ≡ None)) ⊎ (seat.quiet ≡ 1) }
+        ensures { (ids : List ℕ) × (sigs : List Signature) × (result ≡ length sigs) × IsListing (G.next self.graph) self seat ids sigs }
+    {
+        let Frontier { visited } = self;
+        let Seat {
+            raw,
+            spares: _,
+            count: _,
+            hand: _,
+        } = seat;
+        visited.count(raw)
+    }
+
     /// The published signatures by their ids, for a seat that has all places and no hand, or that was
     /// answered `Quiet`.
     ///
     /// # Errors
     ///
-    /// `NoMemory` gives up the frontier. All memory is taken first, before the table is closed: room for as
-    /// many signatures as there are ids.
+    /// `NoMemory` gives up the frontier. Memory is taken for as many signatures as are published, before the
+    /// first is read.
     pub fn close(self, alloc: Global, seat: Seat<G>) -> Result<Listed, NoMemory>
         requires of { IsOf self seat }
         requires whole { ((seat.places ≡ self.workers) × (seat.hand ≡ None)) ⊎ (seat.quiet ≡ 1) }

@@ -4,7 +4,7 @@ ghost use Rattle.git_machine.specs.Signatures.{Signature};
 ghost use Rattle.git_machine.specs.Reach.{LeadsTo};
 ghost use Rattle.git_visits.specs.Visits.{HasSeen};
 ghost use Rattle.git_visits.specs.Seats.{Holds, Rests};
-ghost use Rattle.git_table.specs.Takes.{HintSays, TakeSays};
+ghost use Rattle.git_table.specs.Takes.{HintSays, StopSays, TakeSays};
 ghost use Rattle.git_visits.specs.declared.view.Known.{Known};
 ghost use Rattle.git_visits.specs.declared.view.Post.TheVariants.{Held};
 
@@ -38,6 +38,17 @@ impl<G: Successors> Visited<G> {
             return Hinted::Work(id);
         }
         Hinted::Gone
+    }
+
+    /// Whether a seat told all to stop.
+    pub fn stopped(&self, seat: &mut TableSeat<G>) -> bool
+        requires own { seat.old.table_id ≡ self.now.table.shared.table_id }
+        requires view { Holds seat.old (λ v. v.key ≡ self.now.table.shared.key) }
+        ensures own { (seat.new.table_id ≡ seat.old.table_id) × (seat.new.me.1 ≡ seat.old.me.1) }
+        ensures told { (v : Known G) → seat.old.me.0 ≡ Held v → StopSays v seat.new.me.0 result }
+    {
+        let last = self.states + self.records;
+        look_word(&self.table.shared, seat, last + 1) == 1
     }
 
     /// Takes the highest record that it finds queued.

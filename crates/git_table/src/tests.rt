@@ -476,116 +476,150 @@ fn offer_by<R: Threads + Sync>(
     Ok((has_each_once(alloc, &listed, last as usize + 1)?, said))
 }
 
-#[test]
-fn two_callers_share_what_they_find(rt: HostRuntime) -> Result<(), Fail> {
-    // Which caller, what it does, what is answered: each leads to 1 and 2.
-    let rows = [
-        (true, Step::Take, Said::Work(0)),
-        (false, Step::Take, Said::NotYet),
-        (true, Step::Offer(1), Said::New(1)),
-        (false, Step::Take, Said::Work(1)),
-        (false, Step::Offer(1), Said::Seen(1)),
-        (false, Step::Offer(2), Said::New(2)),
-        (true, Step::Offer(2), Said::Seen(2)),
-        (true, Step::Offer(3), Said::Refused),
-        (true, Step::Finish, Said::Done),
-        (true, Step::Take, Said::Work(2)),
-        (false, Step::Finish, Said::Done),
-        (false, Step::Take, Said::NotYet),
-        (true, Step::Finish, Said::Done),
-        (false, Step::Take, Said::Quiet),
-    ];
-    let (right, listed) = play(rt.alloc(), 4, 2, &rows)?;
-    assert_eq!(rt; right, 14);
-    assert_eq!(rt; lists(&listed, &[0, 1, 2]), true);
-    Ok(())
+/// What is told, the cap, the last number, the rows (whether the first caller does it, what it does, what is
+/// answered), and the numbers that are listed.
+type Case = (
+    &'static str,
+    u32,
+    u64,
+    &'static [(bool, Step, Said)],
+    &'static [u64],
+);
+
+const CASES: &[Case] = &[
+    // each leads to 1 and 2
+    (
+        "two callers share what they find",
+        4,
+        2,
+        &[
+            (true, Step::Take, Said::Work(0)),
+            (false, Step::Take, Said::NotYet),
+            (true, Step::Offer(1), Said::New(1)),
+            (false, Step::Take, Said::Work(1)),
+            (false, Step::Offer(1), Said::Seen(1)),
+            (false, Step::Offer(2), Said::New(2)),
+            (true, Step::Offer(2), Said::Seen(2)),
+            (true, Step::Offer(3), Said::Refused),
+            (true, Step::Finish, Said::Done),
+            (true, Step::Take, Said::Work(2)),
+            (false, Step::Finish, Said::Done),
+            (false, Step::Take, Said::NotYet),
+            (true, Step::Finish, Said::Done),
+            (false, Step::Take, Said::Quiet),
+        ],
+        &[0, 1, 2],
+    ),
+    // both lead to 1 alone
+    (
+        "one caller waits for the other",
+        4,
+        1,
+        &[
+            (true, Step::Take, Said::Work(0)),
+            (false, Step::Take, Said::NotYet),
+            (true, Step::Offer(1), Said::New(1)),
+            (true, Step::Offer(1), Said::Seen(1)),
+            (true, Step::Finish, Said::Done),
+            (false, Step::Take, Said::Work(1)),
+            (true, Step::Take, Said::NotYet),
+            (false, Step::Finish, Said::Done),
+            (true, Step::Take, Said::Quiet),
+            (false, Step::Take, Said::Quiet),
+        ],
+        &[0, 1],
+    ),
+    (
+        "hints are taken once",
+        4,
+        3,
+        &[
+            (true, Step::Take, Said::Work(0)),
+            (false, Step::Hint(1), Said::Gone),
+            (true, Step::Offer(1), Said::New(1)),
+            (false, Step::Hint(1), Said::Work(1)),
+            (true, Step::Offer(2), Said::New(2)),
+            (true, Step::Offer(3), Said::New(3)),
+            (true, Step::Finish, Said::Done),
+            (true, Step::Hint(1), Said::Gone),
+            (true, Step::Hint(2), Said::Work(2)),
+            (true, Step::Hint(3), Said::Refused),
+            (true, Step::Finish, Said::Done),
+            (true, Step::Hint(2), Said::Gone),
+            (true, Step::Hint(5), Said::Gone),
+            (true, Step::Hint(6), Said::Refused),
+            (false, Step::Finish, Said::Done),
+            (false, Step::Take, Said::Work(3)),
+            (false, Step::Finish, Said::Done),
+            (false, Step::Take, Said::Quiet),
+        ],
+        &[0, 1, 2, 3],
+    ),
+    // a table for one signature and two callers has three records; the hands stay, so nothing is listed
+    (
+        "a full table still knows its signatures",
+        1,
+        3,
+        &[
+            (true, Step::Take, Said::Work(0)),
+            (true, Step::Offer(1), Said::New(1)),
+            (true, Step::Offer(2), Said::New(2)),
+            (true, Step::Offer(3), Said::Full),
+            (true, Step::Offer(1), Said::Seen(1)),
+            (true, Step::Finish, Said::Full),
+            (false, Step::Take, Said::Work(2)),
+            (false, Step::Offer(3), Said::Full),
+            (false, Step::Halt, Said::Done),
+            (false, Step::Offer(2), Said::Seen(2)),
+            (true, Step::Take, Said::Refused),
+        ],
+        &[],
+    ),
+    (
+        "callers halt",
+        4,
+        2,
+        &[
+            (true, Step::Take, Said::Work(0)),
+            (false, Step::Halt, Said::Done),
+            (true, Step::Offer(1), Said::New(1)),
+            (true, Step::Offer(2), Said::New(2)),
+            (true, Step::Finish, Said::Done),
+            (true, Step::Take, Said::Halted),
+            (false, Step::Take, Said::Halted),
+        ],
+        &[0, 1, 2],
+    ),
+];
+
+/// Whether all rows of a case are answered as they say, and the numbers are listed.
+fn is_played(alloc: Global, case: &Case) -> Result<bool, NoMemory> {
+    let &(_told, cap, last, rows, numbers) = case;
+    if cap == 0 || cap > 100 {
+        return Ok(false);
+    }
+    let (right, listed) = play(alloc, cap, last, rows)?;
+    Ok(right as usize == rows.len() && lists(&listed, numbers))
 }
 
 #[test]
-fn one_caller_waits_for_the_other(rt: HostRuntime) -> Result<(), Fail> {
-    // Both lead to 1 alone.
-    let rows = [
-        (true, Step::Take, Said::Work(0)),
-        (false, Step::Take, Said::NotYet),
-        (true, Step::Offer(1), Said::New(1)),
-        (true, Step::Offer(1), Said::Seen(1)),
-        (true, Step::Finish, Said::Done),
-        (false, Step::Take, Said::Work(1)),
-        (true, Step::Take, Said::NotYet),
-        (false, Step::Finish, Said::Done),
-        (true, Step::Take, Said::Quiet),
-        (false, Step::Take, Said::Quiet),
-    ];
-    let (right, listed) = play(rt.alloc(), 4, 1, &rows)?;
-    assert_eq!(rt; right, 10);
-    assert_eq!(rt; lists(&listed, &[0, 1]), true);
+fn two_callers_are_answered(rt: HostRuntime) -> Result<(), Fail> {
+    for (i, case) in CASES.iter().enumerate() {
+        assert!(rt; is_played(rt.alloc(), case)?, "case {i}");
+    }
     Ok(())
 }
 
+/// A seat reads whether it told all to stop, and the frontier counts what is published.
 #[test]
-fn hints_are_taken_once(rt: HostRuntime) -> Result<(), Fail> {
-    let rows = [
-        (true, Step::Take, Said::Work(0)),
-        (false, Step::Hint(1), Said::Gone),
-        (true, Step::Offer(1), Said::New(1)),
-        (false, Step::Hint(1), Said::Work(1)),
-        (true, Step::Offer(2), Said::New(2)),
-        (true, Step::Offer(3), Said::New(3)),
-        (true, Step::Finish, Said::Done),
-        (true, Step::Hint(1), Said::Gone),
-        (true, Step::Hint(2), Said::Work(2)),
-        (true, Step::Hint(3), Said::Refused),
-        (true, Step::Finish, Said::Done),
-        (true, Step::Hint(2), Said::Gone),
-        (true, Step::Hint(5), Said::Gone),
-        (true, Step::Hint(6), Said::Refused),
-        (false, Step::Finish, Said::Done),
-        (false, Step::Take, Said::Work(3)),
-        (false, Step::Finish, Said::Done),
-        (false, Step::Take, Said::Quiet),
-    ];
-    let (right, listed) = play(rt.alloc(), 4, 3, &rows)?;
-    assert_eq!(rt; right, 18);
-    assert_eq!(rt; lists(&listed, &[0, 1, 2, 3]), true);
-    Ok(())
-}
-
-#[test]
-fn a_full_table_still_knows_its_signatures(rt: HostRuntime) -> Result<(), Fail> {
-    // A table for one signature and two callers has three records. The hands stay, so nothing is listed.
-    let rows = [
-        (true, Step::Take, Said::Work(0)),
-        (true, Step::Offer(1), Said::New(1)),
-        (true, Step::Offer(2), Said::New(2)),
-        (true, Step::Offer(3), Said::Full),
-        (true, Step::Offer(1), Said::Seen(1)),
-        (true, Step::Finish, Said::Full),
-        (false, Step::Take, Said::Work(2)),
-        (false, Step::Offer(3), Said::Full),
-        (false, Step::Halt, Said::Done),
-        (false, Step::Offer(2), Said::Seen(2)),
-        (true, Step::Take, Said::Refused),
-    ];
-    let (right, listed) = play(rt.alloc(), 1, 3, &rows)?;
-    assert_eq!(rt; right, 11);
-    assert_eq!(rt; lists(&listed, &[]), true);
-    Ok(())
-}
-
-#[test]
-fn callers_halt(rt: HostRuntime) -> Result<(), Fail> {
-    let rows = [
-        (true, Step::Take, Said::Work(0)),
-        (false, Step::Halt, Said::Done),
-        (true, Step::Offer(1), Said::New(1)),
-        (true, Step::Offer(2), Said::New(2)),
-        (true, Step::Finish, Said::Done),
-        (true, Step::Take, Said::Halted),
-        (false, Step::Take, Said::Halted),
-    ];
-    let (right, listed) = play(rt.alloc(), 4, 2, &rows)?;
-    assert_eq!(rt; right, 7);
-    assert_eq!(rt; lists(&listed, &[0, 1, 2]), true);
+fn a_stop_is_read(rt: HostRuntime) -> Result<(), Fail> {
+    let star = Star { last: 1 };
+    let root = Sig::of(rt.alloc(), &[0])?;
+    let (frontier, mut seat) = Frontier::new(rt.alloc(), &star, 4, 1, &root)?;
+    assert_eq!(rt; frontier.stopped(&mut seat), false);
+    frontier.halt(&mut seat);
+    assert_eq!(rt; frontier.stopped(&mut seat), true);
+    assert_eq!(rt; frontier.count(seat), 1);
     Ok(())
 }
 

@@ -42,12 +42,12 @@ module _ {G : Type 0} (next : G → Signature → List Signature → Type 0) (ke
   elsewhere : (h : ℕ) → h ≢ at → h < key.hashes → slice_index ws (1 + h) ≡ 0
   elsewhere h n l = o.front.hash_words h l ∙ rw (ne_eqb h at n) refl
 
-  totals : (f : ℕ → ℕ) → f 0 ≡ 0 → total f (hashes_of key ws) ≡ f 1
+  pub totals : (f : ℕ → ℕ) → f 0 ≡ 0 → total f (hashes_of key ws) ≡ f 1
   totals f z =
       let l = length-cut ws 1 key.hashes in
       lone f z (hashes_of key ws) at 1 (omega (arith, at_below)) (cut_at ws 1 key.hashes at at_below ∙ at_home) (λ i n m. let m' : i < key.hashes = omega arith in cut_at ws 1 key.hashes i m' ∙ elsewhere i n m')
 
-  root : record_of key ws 0 ≡ key.first.value
+  pub root : record_of key ws 0 ≡ key.first.value
   root = ext_get_or 0 (record_of key ws 0) key.first.value (length-cut ws (record_at key 0) key.width ∙ sym long)
       (λ j l. let l' : j < key.width = omega (arith, length-cut ws (record_at key 0) key.width) in let e : record_at key 0 + j ≡ 1 + key.hashes + j = omega arith in
       cut_at ws (record_at key 0) key.width j l' ∙ (ap (slice_index ws) e ∙ o.front.root j l'))
@@ -59,10 +59,10 @@ module _ {G : Type 0} (next : G → Signature → List Signature → Type 0) (ke
   drawn_one : drawn key ws ≡ 1
   drawn_one = let d = o.front.drawn_one in let s = some in omega arith
 
-  state_root : state_of key ws 0 ≡ 1
+  pub state_root : state_of key ws 0 ≡ 1
   state_root = cut_at ws (states_at key) (records key) 0 (omega (arith, some.0)) ∙ (ap (slice_index ws) (add-zero (states_at key)) ∙ o.root_queued)
 
-  state_rest : (r : ℕ) → r ≢ 0 → state_of key ws r ≡ 0
+  pub state_rest : (r : ℕ) → r ≢ 0 → state_of key ws r ≡ 0
   state_rest r n = by (dec_lt r (records key))
     where
       by : Dec (r < records key) → state_of key ws r ≡ 0
@@ -102,8 +102,7 @@ module _ {G : Type 0} (next : G → Signature → List Signature → Type 0) (ke
       state_low = λ r. dite (ℕ_discrete r 0) (λ (z : r ≡ 0). let a = ap (state_of key ws) z ∙ state_root in omega arith) (λ (z : r ≢ 0). let a = state_rest r z in omega arith);
       sum_is = let t = totals nonzero refl in let a = states_total (one 1) refl in let b = states_total (one 3) refl in omega arith;
       live_is = let t = totals nonzero refl in let b = states_total (one 3) refl in let l = o.live_one in omega arith;
-      stop_low = let l = o.stop_zero in omega arith;
-      stop_said = let l = o.stop_zero in omega arith;
+      stop_is = o.stop_zero;
     };
     closed = λ r e. dite (ℕ_discrete r 0) (λ (z : r ≡ 0). let a = ap (state_of key ws) z ∙ state_root in absurd (omega arith)) (λ (z : r ≢ 0). let a = state_rest r z in absurd (omega arith));
     each_seat = λ i p e. seat i p e;

@@ -23,10 +23,9 @@ module _ {G : Type 0} (key : Key G) where
       → ((r : ℕ) → state_of key ws' r < 4)
       → filled (hashes_of key ws') + size v.work.fresh + size v.work.hand + times 1 (states_of key ws) + times 3 (states_of key ws) ≡ filled (hashes_of key ws) + size w.work.fresh + size w.work.hand + times 1 (states_of key ws') + times 3 (states_of key ws')
       → live key ws' + (size w.work.fresh - w.work.counted) + times 3 (states_of key ws') + filled (hashes_of key ws) + v.work.owes ≡ live key ws + (size v.work.fresh - v.work.counted) + times 3 (states_of key ws) + filled (hashes_of key ws') + w.work.owes
-      → stop key ws' < 2
-      → (total halts (set views id (Held w)) + v.work.halted ≡ total halts views + w.work.halted → stop key ws ≤ total halts views → stop key ws' ≤ total halts (set views id (Held w)))
+      → (total halts (set views id (Held w)) + v.work.halted ≡ total halts views + w.work.halted → stop key ws ≡ nonzero (total halts views) → stop key ws' ≡ nonzero (total halts (set views id (Held w))))
       → Census key ws' (set views id (Held w))
-  census_moves ws ws' views id v w at h fresh hand mine low sum lives stops said = record {
+  census_moves ws ws' views id v w at h fresh hand mine low sum lives said = record {
     fresh_is = λ r.
         let t : total (fresh_in r) (set views id (Held w)) + has r v.work.fresh ≡ total (fresh_in r) views + has r w.work.fresh = sum_set (fresh_in r) views id (Held v) (Held w) at in
         let a = fresh r in let b = h.fresh_is r in omega arith;
@@ -45,9 +44,13 @@ module _ {G : Type 0} (key : Key G) where
         let t : total uncounted (set views id (Held w)) + (size v.work.fresh - v.work.counted) ≡ total uncounted views + (size w.work.fresh - w.work.counted) = sum_set uncounted views id (Held v) (Held w) at in
         let u : total owes (set views id (Held w)) + v.work.owes ≡ total owes views + w.work.owes = sum_set owes views id (Held v) (Held w) at in
         let b = h.live_is in omega arith;
-    stop_low = stops;
-    stop_said = said (sum_set halts views id (Held v) (Held w) at) h.stop_said;
+    stop_is = said (sum_set halts views id (Held v) (Held w) at) h.stop_is;
   }
+
+  -- STOP and the seat's mark stay
+  pub stop_stays : (ws ws' : List ℕ) (views : List (Post G)) (id : ℕ) (v w : Known G) → stop key ws' ≡ stop key ws → w.work.halted ≡ v.work.halted
+      → total halts (set views id (Held w)) + v.work.halted ≡ total halts views + w.work.halted → stop key ws ≡ nonzero (total halts views) → stop key ws' ≡ nonzero (total halts (set views id (Held w)))
+  stop_stays ws ws' views id v w stops halted sum is = let same : total halts views ≡ total halts (set views id (Held w)) = omega arith in stops ∙ (is ∙ ap nonzero same)
 
   -- where nothing changes that they read
   pub census_kept : (ws ws' : List ℕ) (views : List (Post G)) (id : ℕ) (v w : Known G) → get_elem? views id ≡ some (Held v) → hashes_of key ws' ≡ hashes_of key ws → states_of key ws' ≡ states_of key ws
@@ -59,15 +62,14 @@ module _ {G : Type 0} (key : Key G) where
       (λ r. subst (λ (ys : List ℕ). slice_index ys r < 4) (sym states) (h.state_low r))
       (let a = ap filled same in let b = ap (times 1) states in let c = ap (times 3) states in let d = ap (λ (u : Work). size u.fresh) work in let e = ap (λ (u : Work). size u.hand) work in omega arith)
       (let a = ap filled same in let c = ap (times 3) states in let d = ap (λ (u : Work). size u.fresh - u.counted) work in let e = ap (λ (u : Work). u.owes) work in omega arith)
-      (let l = h.stop_low in omega arith)
-      (λ t l. let d = ap (λ (u : Work). u.halted) work in omega arith)
+      (stop_stays ws ws' views id v w stops (ap (λ (u : Work). u.halted) work))
 
   -- where only marks and STOP change
   pub census_marks : (ws ws' : List ℕ) (views : List (Post G)) (id : ℕ) (v : Known G) (u : Work) (w : Known G) → w.work ≡ u → get_elem? views id ≡ some (Held v) → hashes_of key ws' ≡ hashes_of key ws → states_of key ws' ≡ states_of key ws
       → live key ws' ≡ live key ws → u.fresh ≡ v.work.fresh → u.counted ≡ v.work.counted → u.hand ≡ v.work.hand → u.owes ≡ v.work.owes → u.mine ≡ v.work.mine
-      → stop key ws' < 2 → (total halts (set views id (Held w)) + v.work.halted ≡ total halts views + w.work.halted → stop key ws ≤ total halts views → stop key ws' ≤ total halts (set views id (Held w)))
+      → (total halts (set views id (Held w)) + v.work.halted ≡ total halts views + w.work.halted → stop key ws ≡ nonzero (total halts views) → stop key ws' ≡ nonzero (total halts (set views id (Held w))))
       → Census key ws views → Census key ws' (set views id (Held w))
-  census_marks ws ws' views id v u w is at same states lives fresh counted hand owed mine stops said h =
+  census_marks ws ws' views id v u w is at same states lives fresh counted hand owed mine said h =
       let f = ap filled same in let t1 = ap (times 1) states in let t3 = ap (times 3) states in
       census_moves ws ws' views id v w at h
       (λ r. let a = ap (times (r + 1)) same in let b = ap (λ (ys : List ℕ). nonzero (slice_index ys r)) states in let c = ap (λ (u : Work). has r u.fresh) is in let d = ap (has r) fresh in omega arith)
@@ -76,7 +78,7 @@ module _ {G : Type 0} (key : Key G) where
       (λ r. subst (λ (ys : List ℕ). slice_index ys r < 4) (sym states) (h.state_low r))
       (let d = ap (λ (u : Work). size u.fresh) is in let e = ap (λ (u : Work). size u.hand) is in let a = ap size fresh in let b = ap size hand in omega arith)
       (let d = ap (λ (u : Work). size u.fresh) is in let c = ap (λ (u : Work). u.counted) is in let e = ap (λ (u : Work). u.owes) is in let a = ap size fresh in omega arith)
-      stops said
+      said
 
   -- a write in front of the state words
   pub head_set : (ws : List ℕ) (i x : ℕ) → i < states_at key → (states_of key (set ws i x) ≡ states_of key ws) × (live key (set ws i x) ≡ live key ws) × (stop key (set ws i x) ≡ stop key ws)
@@ -150,8 +152,7 @@ module _ {G : Type 0} (key : Key G) where
         (λ q. ⊎_elim (λ (c : (q ≡ r) × (state_of key ws' q ≡ x)). let e = c.1 in omega arith) (λ (c : (q ≢ r) × (state_of key ws' q ≡ state_of key ws q)). let e = c.1 in let b = h.state_low q in omega arith) (state_cases q))
         (omega arith)
         (omega arith)
-        (let b = h.stop_low in omega arith)
-        (λ t l. omega arith)
+        (stop_stays ws ws' views id v w sp halted)
       where
         ws' : List ℕ
         ws' = set ws (state_at key r) x
@@ -177,8 +178,7 @@ module _ {G : Type 0} (key : Key G) where
       (λ r. subst (λ (ys : List ℕ). slice_index ys r < 4) (sym states) (h.state_low r))
       (let d = ap (λ (u : Work). size u.fresh) is in let e = ap (λ (u : Work). size u.hand) is in let a = ap size fresh in let b = ap size hand in omega arith)
       (let d = ap (λ (u : Work). size u.fresh - u.counted) is in let e = ap (λ (u : Work). u.owes) is in omega arith)
-      (let l = h.stop_low in omega arith)
-      (λ t l. let d = ap (λ (u : Work). u.halted) is in omega arith)
+      (stop_stays ws (set ws (live_at key) x) views id v w sp (ap (λ (u : Work). u.halted) is ∙ halted))
 
   -- a record with a state is published
   pub state_published : (ws : List ℕ) (views : List (Post G)) → Census key ws views → (r : ℕ) → state_of key ws r ≢ 0 → Published key ws r

@@ -45,6 +45,12 @@ nonzero_not y e = rw (eq-eqb y 0 e) refl
 pub nonzero_is : (y : ℕ) → y ≢ 0 → nonzero y ≡ 1
 nonzero_is y n = rw (ne_eqb y 0 n) refl
 
+pub nonzero_alike : (x y : ℕ) → (0 < x → 0 < y) → (0 < y → 0 < x) → nonzero x ≡ nonzero y
+nonzero_alike zero zero to from = refl
+nonzero_alike zero (suc y) to from = absurd (let l = from (omega arith) in omega arith)
+nonzero_alike (suc x) zero to from = absurd (let l = to (omega arith) in omega arith)
+nonzero_alike (suc x) (suc y) to from = nonzero_is (suc x) (λ e. omega arith) ∙ sym (nonzero_is (suc y) (λ e. omega arith))
+
 module _ {A : Type 0} (f : A → ℕ) where
   -- one element's part of a sum
   pub part_le : (l : List A) (i : ℕ) (a : A) → get_elem? l i ≡ some a → f a ≤ total f l

@@ -17,12 +17,12 @@ use Rattle.git_visits.specs.declared.view.Work.{Work}
 use Rattle.git_visits.specs.declared.view.Post.{Post}
 use Rattle.git_visits.specs.declared.view.Post.TheVariants.{Spent, Held}
 use Rattle.git_visits.specs.Lists.{total, times, size, nonzero, once_below, front_of}
-use Rattle.git_visits.specs.Visits.{records, hash_at, record_at, states_at, state_at, live_at, stop_at, hashes_of, record_of, states_of, state_of, live, drawn, work_of, fresh_in, freshes, hands, spare_numbers, Published, Knows, HasSeen, Ruled, MayPublish}
+use Rattle.git_visits.specs.Visits.{records, hash_at, record_at, states_at, state_at, live_at, stop_at, hashes_of, record_of, states_of, state_of, live, drawn, work_of, fresh_in, freshes, hands, halts, spare_numbers, Published, Knows, HasSeen, Ruled, MayPublish}
 use Rattle.git_visits.specs.Seats.{with_look, ShowsPublished, Agrees, Led}
 use Rattle.git_visits.specs.Cuttings.{kept_half, given_half, joined}
 use Rattle.git_visits.specs.Shown.{listed_of, queued_of, finished_of, hand_at, hands_of, machine_of}
-use Rattle.git_visits.specs.Laws.{TableState, after, after_load, with_note, Before, Stays, DrawStays, StoreStays, ProbeStays, CompareMeets, PublishHappens, GiveBackStays, SplitStays, JoinStays, ReadyStays, TakeHappens, BoundStays, FinishHappens, RaiseStays, LowerStays, QuietHappens, StopStays, StoppedStays}
-use Rattle.git_visits.proofs.Cuts.{one_same, one_other, part_le, times_pos, times_found, length-cut, cut_at, cut_set_else, below_le}
+use Rattle.git_visits.specs.Laws.{TableState, after, after_load, with_note, Before, Stays, DrawStays, StoreStays, ProbeStays, CompareMeets, PublishHappens, GiveBackStays, SplitStays, JoinStays, ReadyStays, TakeHappens, BoundStays, FinishHappens, RaiseStays, LowerStays, QuietHappens, StopStays, MarkMeansStop, StoppedStays}
+use Rattle.git_visits.proofs.Cuts.{nonzero_is, one_same, one_other, part_le, times_pos, times_found, length-cut, cut_at, cut_set_else, below_le}
 use Rattle.git_visits.proofs.Counts.{has_sum, head_set, tail_hashes, tail_record, state_is, state_cases, state_published, state_below}
 use Rattle.git_visits.proofs.Facts.{published_drawn, spare_apart}
 use Rattle.git_visits.proofs.Draws.{draw_ruled, over_ruled, undraw_ruled}
@@ -32,7 +32,7 @@ use Rattle.git_visits.proofs.Publishes.{published, times_more, recs, mine, new}
 use Rattle.git_visits.proofs.Works.{quiet_all, ready_ruled, take_ruled, finish_ruled, raise_ruled, lower_ruled, stop_ruled, look_ruled, quiet_ruled}
 use Rattle.git_visits.proofs.Seating.{splits, joins}
 
-none_of : (b : Bool) → (if b then false else false) ≡ false
+pub none_of : (b : Bool) → (if b then false else false) ≡ false
 none_of true = refl
 none_of false = refl
 
@@ -47,10 +47,10 @@ nobody None e = refl
 nobody (Some x) e = absurd (omega arith)
 
 module _ {G : Type 0} (key : Key G) where
-  counted_some : (ws : List ℕ) (q : ℕ) → 0 < times (q + 1) (hashes_of key ws) → listed_of key ws q ≡ Some (record_of key ws q)
+  pub counted_some : (ws : List ℕ) (q : ℕ) → 0 < times (q + 1) (hashes_of key ws) → listed_of key ws q ≡ Some (record_of key ws q)
   counted_some ws q h = let t : nat_lt 0 (times (q + 1) (hashes_of key ws)) ≡ true = grind (arith, nat_tests) in rw t refl
 
-  counted_none : (ws : List ℕ) (q : ℕ) → ¬ (0 < times (q + 1) (hashes_of key ws)) → listed_of key ws q ≡ None
+  pub counted_none : (ws : List ℕ) (q : ℕ) → ¬ (0 < times (q + 1) (hashes_of key ws)) → listed_of key ws q ≡ None
   counted_none ws q h = let t : nat_lt 0 (times (q + 1) (hashes_of key ws)) ≡ false = grind (arith, nat_tests) in rw t refl
 
   counts : (ws : List ℕ) (q : ℕ) → Published key ws q → 0 < times (q + 1) (hashes_of key ws)
@@ -464,6 +464,11 @@ module _ {G : Type 0} (next : G → Signature → List Signature → Type 0) whe
 
   pub stop_law : StopStays next
   stop_law s id v b = record { rule = stop_ruled next v.key s b.rule id v v.looks b.seat; shown = last_shown s id v b (stop_at v.key) 1 _ (omega arith) refl }
+
+  pub halted_law : MarkMeansStop next
+  halted_law s id v b mark =
+      let l : v.work.halted ≤ total halts s.views = part_le halts s.views id (Held v) b.seat in
+      b.rule.census.stop_is ∙ nonzero_is (total halts s.views) (λ z. omega arith)
 
   pub stopped_law : StoppedStays next
   stopped_law s id v b = look_stays s id v b (stop_at v.key)

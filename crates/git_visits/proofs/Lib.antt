@@ -9,3 +9,4 @@ pub mod Publishes
 pub mod Begins
 pub mod Events
 pub mod Seating
+mod Passages

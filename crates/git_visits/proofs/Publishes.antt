@@ -18,7 +18,7 @@ use Rattle.git_visits.specs.Plays.{Own, Goes}
 use Rattle.git_visits.specs.Plays as plays
 use Rattle.git_visits.proofs.Cuts.{length-cut, cut_at, cut_set_else, cut_set, one_other, one_suc, nonzero_not, nonzero_is, sum_set, sum_set_at}
 use Rattle.git_visits.proofs.Loads.{noted}
-use Rattle.git_visits.proofs.Counts.{head_set, census_moves, closed_kept}
+use Rattle.git_visits.proofs.Counts.{head_set, census_moves, stop_stays, closed_kept}
 use Rattle.git_visits.proofs.Facts.{knows_goes, hash_le, front_parts, goes, spares_then, seats_stay, spare_apart}
 
 module _ {G : Type 0} (next : G → Signature → List Signature → Type 0) (s : State (Unit {0}) (Post G)) (id : ℕ) (v : Known G) (at : get_elem? s.views id ≡ some (Held v)) (h : Ruled next v.key s) where
@@ -179,8 +179,7 @@ module _ {G : Type 0} (next : G → Signature → List Signature → Type 0) (s 
         (λ q. subst (λ (ys : List ℕ). slice_index ys q < 4) (sym tails.0) (h.census.state_low q))
         (omega arith)
         (omega arith)
-        (let m = h.census.stop_low in omega arith)
-        (λ t l. omega arith)
+        (stop_stays key s.words ws' s.views id v w tails.2 refl)
 
     all : (j : ℕ) (p : Post G) → get_elem? s.views j ≡ some p → IsKnown key ws' p
     all j Spent e = tt

@@ -14,7 +14,7 @@ use Rattle.git_visits.specs.declared.view.Post.TheVariants.{Spent, Held}
 use Rattle.git_visits.specs.Lists.{total, times, filled, has, size, front_of, tail_of}
 use Rattle.git_visits.specs.Visits.{hashes_of, live, fresh_in, hand_in, mine_in, freshes, hands, uncounted, owes, halts, Knows, IsKnown, spare_numbers, places_of, over_of, spares_of, Ruled}
 use Rattle.git_visits.specs.Cuttings.{kept_half, given_half, joined, given_work, joined_work}
-use Rattle.git_visits.proofs.Cuts.{sum_set, parts_le}
+use Rattle.git_visits.proofs.Cuts.{nonzero_alike, part_le, sum_set, parts_le}
 use Rattle.git_visits.proofs.Facts.{seats_stay}
 
 total_snoc : {A : Type 0} (f : A → ℕ) (l : List A) (a : A) → total f (l ++ a ∷ []) ≡ total f l + f a
@@ -78,8 +78,7 @@ module _ {G : Type 0} (next : G → Signature → List Signature → Type 0) (ke
       state_low = h.census.state_low;
       sum_is = let a = sums freshes in let b = sums hands in let c = h.census.sum_is in omega arith;
       live_is = let a = sums uncounted in let b = sums owes in let c = h.census.live_is in omega arith;
-      stop_low = h.census.stop_low;
-      stop_said = let a = sums halts in let b = h.census.stop_said in omega arith;
+      stop_is = let a = sums halts in let l : v.work.halted ≤ total halts s.views = part_le halts s.views id (Held v) at in h.census.stop_is ∙ nonzero_alike (total halts s.views) (total halts (vs ++ Held u ∷ [])) (λ m. omega arith) (λ m. omega arith);
     };
     closed = h.closed;
     each_seat = λ j p e. ⊎_elim (λ (t : get_elem? vs j ≡ some p). seats_stay (λ _ p. IsKnown key s.words p) s.views id (Held w) kept (λ j p _. h.each_seat j p) j p t) (λ (t : Held u ≡ p). subst (IsKnown key s.words) t given) (at_snoc vs (Held u) p j e);
@@ -126,8 +125,7 @@ module _ {G : Type 0} (next : G → Signature → List Signature → Type 0) (ke
       state_low = h.census.state_low;
       sum_is = let a = sums freshes in let b = sums hands in let c = h.census.sum_is in let d = ap size fresh in let e = ap size fresh' in let f = ap size free.0 in let g = ap size free'.0 in omega arith;
       live_is = let a = sums uncounted in let b = sums owes in let c = h.census.live_is in let d = ap size fresh in let e = ap size fresh' in let f = free.1 in let g = free'.1 in omega arith;
-      stop_low = h.census.stop_low;
-      stop_said = let a = sums halts in let b = h.census.stop_said in let l = h.census.stop_low in let c : v.work.halted + w.work.halted ≤ total halts s.views = parts_le halts s.views id other (Held v) (Held w) (λ e. two (sym e)) at was in omega arith;
+      stop_is = let a = sums halts in let c : v.work.halted + w.work.halted ≤ total halts s.views = parts_le halts s.views id other (Held v) (Held w) (λ e. two (sym e)) at was in h.census.stop_is ∙ nonzero_alike (total halts s.views) (total halts (set vs other Spent)) (λ m. omega arith) (λ m. omega arith);
     };
     closed = h.closed;
     each_seat = seats_stay (λ _ p. IsKnown key s.words p) vs other Spent tt (λ j p _. seats_stay (λ _ p. IsKnown key s.words p) s.views id (Held b) both (λ j p _. h.each_seat j p) j p);

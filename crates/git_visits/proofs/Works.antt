@@ -19,7 +19,7 @@ use Rattle.git_visits.specs.Visits.{records, states_at, state_at, live_at, stop_
 use Rattle.git_visits.specs.Plays as plays
 use Rattle.git_visits.proofs.Cuts.{length-cut, cut_at, cut_set_else, one_same, one_other, nonzero_is, nonzero_not, part_le, total_le, below_one, below_le}
 use Rattle.git_visits.proofs.Facts.{goes, seats_stay, published_drawn, published_there, spare_apart, tally_kept, shown_kept, knows_kept}
-use Rattle.git_visits.proofs.Counts.{tail_first, tail_hashes, tail_record, tail_fixed, state_is, state_cases, state_live, census_state, census_live, census_marks, state_published, state_below, closed_goes, closed_kept}
+use Rattle.git_visits.proofs.Counts.{tail_first, tail_hashes, tail_record, tail_fixed, state_is, state_cases, state_live, census_state, census_live, census_marks, stop_stays, state_published, state_below, closed_goes, closed_kept}
 use Rattle.git_visits.proofs.Loads.{still, same_census}
 
 module _ {G : Type 0} (next : G → Signature → List Signature → Type 0) (key : Key G) where
@@ -217,7 +217,7 @@ module _ {G : Type 0} (next : G → Signature → List Signature → Type 0) (ke
         let lv : live key ws' ≡ live key s.words = get_or-set_other s.words (stop_at key) (live_at key) 1 0 (λ e. omega arith) in
         let here : stop key ws' ≡ 1 = let l = h.long in get_or-set_same s.words (stop_at key) 1 0 (omega arith) in
         at_tail (stop_at key) 1 id v u looks at (omega arith)
-        (census_marks key s.words ws' s.views id v u w refl at (tail_hashes key s.words (stop_at key) 1 (omega arith)) states lv refl refl refl refl refl (omega arith) (λ t l. omega arith) h.census)
+        (census_marks key s.words ws' s.views id v u w refl at (tail_hashes key s.words (stop_at key) 1 (omega arith)) states lv refl refl refl refl refl (λ t l. here ∙ sym (nonzero_is (total halts (set s.views id (Held w))) (λ z. omega arith))) h.census)
         (closed_else (stop_at key) 1 (omega arith) states)
         (λ z. lv ∙ z)
         record { fresh_beside = k.fresh_beside; counted_beside = k.counted_beside; owes_alone = k.owes_alone; quiet_is = λ e. lv ∙ k.quiet_is e }
@@ -235,7 +235,7 @@ module _ {G : Type 0} (next : G → Signature → List Signature → Type 0) (ke
         let u : Work = record v.work { quiet = 1 } in let w : Known G = record v { work = u; looks = looks } in
         let k = h.each_seat id (Held v) at in let j = k.work_is in
         still next key s h (live_at key) id v w at refl refl refl
-        (census_marks key s.words s.words s.views id v u w refl at refl refl refl refl refl refl refl refl h.census.stop_low (λ t l. omega arith) h.census)
+        (census_marks key s.words s.words s.views id v u w refl at refl refl refl refl refl refl refl refl (stop_stays key s.words s.words s.views id v w refl refl) h.census)
         record { spares_are = k.spares_are; noted = k.noted; seen_is = k.seen_is; full_is = k.full_is; work_is = record { fresh_beside = j.fresh_beside; counted_beside = j.counted_beside; owes_alone = j.owes_alone; quiet_is = λ _. z } }
 
 module _ {G : Type 0} (next : G → Signature → List Signature → Type 0) (key : Key G) (slots id : ℕ) (v : Known G) (cs : List (ℕ × Unit {0})) where

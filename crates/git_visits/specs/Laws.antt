@@ -133,6 +133,10 @@ module _ {G : Type 0} (next : G → Signature → List Signature → Type 0) whe
   abbrev pub StopStays : Type 0
   StopStays = OfSeats (λ s id v. Stays v.key s (after s (stop_at v.key) 1 id (record v { work = record v.work { halted = 1 } })))
 
+  -- a seat that set STOP: it is 1, whatever the others did since
+  abbrev pub MarkMeansStop : Type 0
+  MarkMeansStop = OfSeats (λ s id v. v.work.halted ≡ 1 → slice_index s.words (stop_at v.key) ≡ 1)
+
   -- STOP is read
   abbrev pub StoppedStays : Type 0
   StoppedStays = OfSeats (λ s id v. Stays v.key s (after_load s (stop_at v.key) id (with_look v (stop_at v.key) (slice_index s.words (stop_at v.key)))))

@@ -6,3 +6,4 @@ pub mod Opening
 pub mod Shown
 pub mod Cuttings
 pub mod Laws
+pub mod Runs

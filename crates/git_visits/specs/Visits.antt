@@ -175,8 +175,8 @@ module _ {G : Type 0} where
     pub state_low : (r : ℕ) → state_of key ws r < 4
     pub sum_is : filled (hashes_of key ws) ≡ total freshes views + times 1 (states_of key ws) + total hands views + times 3 (states_of key ws)
     pub live_is : live key ws + total uncounted views + times 3 (states_of key ws) ≡ filled (hashes_of key ws) + total owes views
-    pub stop_low : stop key ws < 2
-    pub stop_said : stop key ws ≤ total halts views
+    -- 1 where some view has the mark, else 0
+    pub stop_is : stop key ws ≡ nonzero (total halts views)
 
   -- each finished record has all of its next published
   abbrev pub Closed : (G → Signature → List Signature → Type 0) → Key G → List ℕ → Type 0

@@ -1,9 +1,22 @@
 //! The seventeen kinds of steps. Each function is a law: whatever the other seats do, a step of this kind
 //! keeps the rule, and is the event of the closure machine that is named here, enabled in the state that
 //! the words and views show, or leaves what they show as it is.
-ghost use Rattle.git_visits.specs.Laws.{DrawStays, StoreStays, ProbeStays, CompareMeets, PublishHappens, GiveBackStays, SplitStays, JoinStays, ReadyStays, TakeHappens, BoundStays, FinishHappens, RaiseStays, LowerStays, QuietHappens, StopStays, StoppedStays};
+ghost use Rattle.git_visits.specs.Laws.{DrawStays, StoreStays, ProbeStays, CompareMeets, PublishHappens, GiveBackStays, SplitStays, JoinStays, ReadyStays, TakeHappens, BoundStays, FinishHappens, RaiseStays, LowerStays, QuietHappens, StopStays, MarkMeansStop, StoppedStays};
+ghost use Rattle.git_visits.specs.Runs.{OpeningShows, RunsAreShown};
 
 use git_machine::Successors;
+
+/// At its opening the table keeps the rule, and shows the closure machine at its opening.
+pub fn opening<G: Successors>()
+    ensures { OpeningShows G.next }
+{}
+
+/// After every list of steps from the opening, each by some seat and of one of the kinds below, the rule
+/// holds, and the table shows what some list of enabled events of the closure machine leads to. So what
+/// holds of the machine after each such list holds of what the table shows.
+pub fn runs<G: Successors>()
+    ensures { RunsAreShown G.next }
+{}
 
 /// A record number is drawn: `NEXT` grows by 1.
 pub fn draw<G: Successors>()
@@ -83,6 +96,11 @@ pub fn quiet<G: Successors>()
 /// `STOP` becomes 1.
 pub fn stop<G: Successors>()
     ensures { StopStays G.next }
+{}
+
+/// `STOP` is 1 at every moment after a seat set it.
+pub fn halted<G: Successors>()
+    ensures { MarkMeansStop G.next }
 {}
 
 /// `STOP` is read.
