@@ -9,13 +9,13 @@ use Rattle.git_listing.specs.declared.listing.Listing as code
 
 abbrev pub side_of : ListedSide → Side
 side_of sides.Boundary = boundary
-side_of (sides.Inner n) = inner n
+side_of (sides.Inner number matched) = inner number matched
 
 abbrev pub facet_of : ListedFacet → Facet
 facet_of f = record { normal = f.normal; side = side_of f.side }
 
 abbrev pub chamber_of : ListedChamber → Chamber
-chamber_of c = record { rays = c.rays.items; weight = c.weight; facets = map facet_of c.facets.items }
+chamber_of c = record { rays = c.rays.items; weight = c.weight; crossed = c.crossed; facets = map facet_of c.facets.items }
 
 abbrev pub listing_of : code.Listing → Listing
-listing_of l = record { k = l.k; r = l.r; cones = l.cones; chambers = map chamber_of l.chambers.items }
+listing_of l = record { version = l.version; k = l.k; r = l.r; cones = l.cones; chambers = map chamber_of l.chambers.items }

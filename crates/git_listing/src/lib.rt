@@ -1,6 +1,7 @@
 //! Listings of chambers: their value and their text. What makes listings stands on this crate.
 #![tactic(auto)]
 
+pub mod laws;
 mod listing;
 mod printing;
 
