@@ -5,8 +5,8 @@ use Rattle.git_defs.specs.Cones.{InCone, Cut, AreRays, AreFacets, SameSet, IsPoi
 use Rattle.git_geometry.specs.Zeros.{Dominates}
 use Rattle.git_stages.specs.Short.{IsShort}
 use Rattle.git_stages.specs.Wide.{IsWideAt}
-use Rattle.git_dd.specs.declared.answers.StageFault.{StageFault}
-use Rattle.git_dd.specs.declared.answers.StageFault.TheVariants as stage
+use Rattle.git_elimination.specs.declared.fault.StageFault.{StageFault}
+use Rattle.git_elimination.specs.declared.fault.StageFault.TheVariants as stage
 use Rattle.git_canon.specs.declared.canon.CanonFault.{CanonFault}
 use Rattle.git_canon.specs.declared.canon.CanonFault.TheVariants.{Wide, NoMemory}
 

@@ -4,7 +4,7 @@ ghost use Rattle.std.specs.Prelude.{◌≡◌, ◌↔◌, ◌≤◌, ◌*◌, Al
 ghost use Rattle.git_defs.specs.Vectors.{Precedes};
 ghost use Rattle.git_geometry.specs.Zeros.{Dominates, AreUndominated};
 ghost use Rattle.git_stages.specs.Short.{IsShort};
-ghost use Rattle.git_dd.specs.Marks.{IsRay, IsMarked, vectors};
+ghost use Rattle.git_adjacency.specs.Marks.{IsRay, IsMarked, vectors};
 ghost use Rattle.git_canon.specs.Canons.{IsAlone};
 
 use git_base::NoMemory;

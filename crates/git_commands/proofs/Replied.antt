@@ -44,8 +44,8 @@ sample_replied sample run bytes v s text is h =
 
 -- the bytes are no input
 pub refused_replied : (c : Command) (left : Option (List ℕ)) (a : code.Reply) → Reads c → IsReading left (Refused a) → over left (reply_of c) a.status a.text.items
-refused_replied c left a reading (bytes, left_are, status, none) =
-    (bytes, left_are, plain_of (InputOf c bytes) (command_answer c bytes) BadInput a.status a.text.items a.text.items (reads_answers c bytes (says BadInput a.text.items) reading (no_input_read (cases_of c) bytes (says BadInput a.text.items) none)) status refl)
+refused_replied c left a reading (bytes, left_are, refusal) =
+    (bytes, left_are, plain_of (InputOf c bytes) (command_answer c bytes) BadInput a.status a.text.items a.text.items (reads_answers c bytes (says BadInput a.text.items) reading (no_input_read (cases_of c) bytes (says BadInput a.text.items) refusal.1)) refusal.0 refl)
 
 -- they are an input, and its cases decide
 pub input_answered : (c : Command) (left : Option (List ℕ)) (v : InputValue) (s : Status) (text : List ℕ) → Reads c → ((bytes : List ℕ) × IfSome left (λ bs. bs ≡ bytes) × ((length bytes ≤ INPUT_BYTES) × IsInput bytes v))

@@ -16,17 +16,18 @@ use Rattle.git_stages.specs.Ranks.{IsRank}
 use Rattle.git_stages.specs.Short.{IsShort}
 use Rattle.git_stages.specs.Wide.{NeverWide, IsWideAt}
 use Rattle.git_dd.proofs.Finals.{split, pointed, exact, narrow, front, back, late_wide, never_wide, are_rays}
-use Rattle.git_dd.proofs.Nexts.{ray_in}
+use Rattle.git_adjacency.proofs.Nexts.{ray_in}
 use Rattle.git_dd.specs.Answers.{AreRaysOf, IsFaultOf}
 use Rattle.git_dd.specs.Converted.{IsConverted}
-use Rattle.git_dd.specs.Marks.{IsRay, vectors}
-use Rattle.git_dd.specs.Progress.{Progress}
-use Rattle.git_dd.specs.Stops.{IsLateWide, IsLateStop, IsEarlyStop, IsWideFault}
+use Rattle.git_adjacency.specs.Marks.{IsRay, vectors}
+use Rattle.git_elimination.specs.Progress.{Progress}
+use Rattle.git_elimination.specs.Stops.{IsEarlyStop}
+use Rattle.git_dd.specs.Stops.{IsLateWide, IsLateStop, IsWideFault}
 use Rattle.git_dd.specs.Tights.{AreAllTight}
-use Rattle.git_dd.specs.declared.ray.Ray.{Ray}
+use Rattle.git_adjacency.specs.declared.ray.Ray.{Ray}
 use Rattle.git_dd.specs.declared.answers.DdFault.{DdFault}
-use Rattle.git_dd.specs.declared.answers.StageFault.{StageFault}
-use Rattle.git_dd.specs.declared.answers.StageFault.TheVariants.{Wide, NoMemory}
+use Rattle.git_elimination.specs.declared.fault.StageFault.{StageFault}
+use Rattle.git_elimination.specs.declared.fault.StageFault.TheVariants.{Wide, NoMemory}
 use Rattle.git_stages.specs.declared.wide.WideWhat.{WideWhat}
 
 pub split_size : (k : ℕ) (taken left base rest : List Vector) → IsSplit k taken left base rest → length base + length rest ≡ length taken + length left

@@ -14,6 +14,7 @@ use Rattle.git_geometry.proofs.Stages.{next_exact, exact_along}
 use Rattle.git_geometry.specs.Stages.{Exact, IsNext}
 use Rattle.git_stages.proofs.Fronts.{member_more, front_grows, last_in, front_in_front}
 use Rattle.git_stages.proofs.Listed.{exact_members, pairs_of}
+use Rattle.git_elimination.proofs.Progressing.{one_more}
 use Rattle.git_stages.specs.Narrow.{IsNarrowAt, IsNarrowTo}
 use Rattle.git_stages.specs.Stages.{IsLate}
 use Rattle.git_stages.specs.Wide.{IsLeastLarge, IsLeastOf}
@@ -45,11 +46,6 @@ late_stage k n A ws h l rays = record {
   is = omega (arith, h);
   rays = subst (λ (u : List Vector). AreRays k (Cut k u) ws) (sym (front_back k n A h l)) rays;
 }
-
-pub one_more : (i n : ℕ) → i ≤ n + 1 → (i ≤ n) ⊎ (i ≡ n + 1)
-one_more zero n h = inl (omega arith)
-one_more (suc i) zero h = inr (omega (arith, h))
-one_more (suc i) (suc n) h = elim (one_more i n (omega (arith, h))) [ inl l ↦ inl (omega (arith, l)) | inr e ↦ inr (omega (arith, e)) ]
 
 pub narrow_step : (k : ℕ) (base rest : List Vector) (n : ℕ) → IsNarrowTo k base rest n → IsNarrowAt k base rest (n + 1) → IsNarrowTo k base rest (n + 1)
 narrow_step k base rest n before here i p q = elim (one_more i n q) [ inl l ↦ before i p l | inr e ↦ subst (IsNarrowAt k base rest) (sym e) here ]

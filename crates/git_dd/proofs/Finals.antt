@@ -32,7 +32,7 @@ use Rattle.git_stages.specs.Stages.{IsStage}
 use Rattle.git_stages.specs.Wide.{NeverWide, IsWideAt}
 use Rattle.git_dd.proofs.Lates.{tidied_to, tidied_back}
 use Rattle.git_dd.specs.Answers.{AreRaysOf}
-use Rattle.git_dd.specs.Progress.{Progress}
+use Rattle.git_elimination.specs.Progress.{Progress}
 use Rattle.git_dd.specs.Stops.{IsLateWide}
 use Rattle.git_dd.specs.Tights.{AreAllTight}
 use Rattle.git_stages.specs.declared.wide.WideWhat.{WideWhat}

@@ -14,11 +14,11 @@ use Rattle.git_stages.specs.Narrow.{IsNarrowTo}
 use Rattle.git_stages.specs.Prepared.{IsSortedSet}
 use Rattle.git_stages.specs.Wide.{IsLeastOf}
 use Rattle.git_dd.proofs.Extends.{late_stage, late_narrow, least_along, narrow_step}
-use Rattle.git_dd.proofs.Nexts.{vector_in}
-use Rattle.git_dd.specs.Marks.{IsRay, vectors}
-use Rattle.git_dd.specs.Sides.{IsMarkedRay}
+use Rattle.git_adjacency.proofs.Nexts.{vector_in}
+use Rattle.git_adjacency.specs.Marks.{IsRay, vectors}
+use Rattle.git_adjacency.specs.Sides.{IsMarkedRay}
 use Rattle.git_dd.specs.Stops.{IsLateWide}
-use Rattle.git_dd.specs.declared.ray.Ray.{Ray}
+use Rattle.git_adjacency.specs.declared.ray.Ray.{Ray}
 use Rattle.git_stages.specs.declared.wide.WideWhat.TheVariants.{Entry, Many}
 use Rattle.std.proofs.lemmas.List.Elements.{Contains-get_or}
 

@@ -1,15 +1,5 @@
-pub mod Bits
-pub mod Blending
-pub mod Counting
-pub mod Eliminating
 pub mod Ends
-pub mod Enough
 pub mod Extends
 pub mod Finals
 pub mod Lates
-pub mod Makes
-pub mod Marking
-pub mod Nexts
-pub mod Progressing
-pub mod Readies
 pub mod Tightness

@@ -1,8 +1,6 @@
+pub use Rattle.git_adjacency.specs.Marks
+pub use Rattle.git_elimination.specs.Progress
 pub mod Answers
 pub mod Converted
-pub mod Making
-pub mod Marks
-pub mod Progress
-pub mod Sides
 pub mod Stops
 pub mod Tights

@@ -6,12 +6,8 @@ use Rattle.git_stages.specs.Prepared.{IsPrepared}
 use Rattle.git_stages.specs.Stages.{IsStage}
 use Rattle.git_stages.specs.Wide.{IsWideStage, IsWideAt, IsWhat}
 use Rattle.git_stages.specs.declared.wide.WideWhat.{WideWhat}
-use Rattle.git_dd.specs.declared.answers.StageFault.{StageFault}
-use Rattle.git_dd.specs.declared.answers.StageFault.TheVariants.{Wide, NoMemory}
-
-abbrev pub IsEarlyStop : ℕ → List Vector → StageFault → Type 0
-IsEarlyStop k prepared (Wide w) = (given : List Vector) → IsPrepared given prepared → IsWideAt k given w.stage w.what
-IsEarlyStop k prepared NoMemory = Unit {0}
+use Rattle.git_elimination.specs.declared.fault.StageFault.{StageFault}
+use Rattle.git_elimination.specs.declared.fault.StageFault.TheVariants.{Wide, NoMemory}
 
 -- a later stage that is wide
 pub record IsLateWide (k : ℕ) (ordered : List Vector) (stage : ℕ) (what : WideWhat) : Type 0 where

@@ -20,12 +20,3 @@ pub enum DdFault {
     /// Memory ran out.
     NoMemory,
 }
-
-/// Why a list of inequalities of full rank has no extreme vectors: the same without `NotPointed`.
-#[derive(Clone, Copy, Debug, PartialEq, Eq)]
-pub enum StageFault {
-    /// The list is wide.
-    Wide(WideAt),
-    /// Memory ran out.
-    NoMemory,
-}

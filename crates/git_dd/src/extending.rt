@@ -7,13 +7,12 @@ ghost use Rattle.git_stages.specs.Narrow.{IsNarrowTo};
 ghost use Rattle.git_stages.specs.Prepared.{IsSortedSet};
 ghost use Rattle.git_stages.specs.Short.{IsShort};
 ghost use Rattle.git_stages.specs.Wide.{IsLeastOf};
-ghost use Rattle.git_dd.specs.Marks.{IsRay, vectors};
+ghost use Rattle.git_adjacency.specs.Marks.{IsRay, vectors};
 ghost use Rattle.git_dd.specs.Stops.{IsLateStop};
 
-use crate::answers::StageFault;
-use crate::ray::Ray;
-use crate::stage::next;
+use git_adjacency::{Ray, next};
 use git_base::NoMemory;
+use git_elimination::StageFault;
 use git_ints::IVec;
 use git_limits::MANY;
 use git_stages::{WideAt, WideWhat, add, is_small, lesser, sorted_set};

@@ -4,21 +4,14 @@
 #![tactic(auto)]
 
 mod answers;
-mod elimination;
 mod extending;
 mod listing;
-mod marks;
-mod plain;
-mod ray;
-mod splitting;
-mod stage;
 
-pub use answers::{DdFault, Rays, StageFault};
+pub use answers::{DdFault, Rays};
+pub use git_adjacency::{Ray, are_adjacent, first_rays, has_common};
+pub use git_elimination::StageFault;
 pub use git_stages::{WideAt, WideWhat};
-pub use listing::{first_rays, full_rays, rays};
-pub use marks::has_common;
-pub use plain::are_adjacent;
-pub use ray::Ray;
+pub use listing::{full_rays, rays};
 
 #[cfg(test)]
 mod tests;

@@ -7,17 +7,17 @@ ghost use Rattle.git_stages.specs.Short.{IsShort};
 ghost use Rattle.git_stages.specs.Wide.{NeverWide};
 ghost use Rattle.git_dd.specs.Answers.{AreRaysOf, IsFaultOf};
 ghost use Rattle.git_dd.specs.Converted.{IsConverted};
-ghost use Rattle.git_dd.specs.Marks.{IsRay, vectors};
-ghost use Rattle.git_dd.specs.Progress.{Progress};
-ghost use Rattle.git_dd.specs.Stops.{IsEarlyStop, IsWideFault};
+ghost use Rattle.git_adjacency.specs.Marks.{IsRay, vectors};
+ghost use Rattle.git_elimination.specs.Progress.{Progress};
+ghost use Rattle.git_elimination.specs.Stops.{IsEarlyStop};
+ghost use Rattle.git_dd.specs.Stops.{IsWideFault};
 ghost use Rattle.git_dd.specs.Tights.{AreTight, AreAllTight};
 
-use crate::answers::{DdFault, Rays, StageFault};
+use crate::answers::{DdFault, Rays};
 use crate::extending::{extended, vectors_of};
-use crate::marks::marked;
-use crate::ray::Ray;
-use crate::splitting::{Split, split_all};
+use git_adjacency::first_rays;
 use git_base::NoMemory;
+use git_elimination::{Split, StageFault, split_all};
 use git_ints::IVec;
 use git_rank::rank;
 use git_stages::{add, is_level, joined, prepared, sorted_set};
@@ -55,28 +55,6 @@ pub fn all_tight(
     for x in list {
         let places = tight_of(alloc, k, prepared, x)?;
         add(&mut out, places)?;
-    }
-    Ok(out)
-}
-
-/// The first vectors with their marks.
-pub fn first_rays(
-    alloc: Global,
-    k: usize,
-    base: &[IVec],
-    width: usize,
-    list: &[IVec],
-) -> Result<Vec<Ray>, NoMemory>
-    requires base { All (IsShort k) base.now }
-    requires list { All (IsShort k) list.now }
-    requires room { length base.now ≤ 64 * width }
-    ensures vectors { IfOk result (λ v. vectors v.items ≡ list.now) }
-    ensures rays { IfOk result (λ v. All (IsRay k base.now width) v.items) }
-{
-    let mut out = Vec::new(alloc);
-    for x in list {
-        let zeros = marked(alloc, k, base, width, x)?;
-        add(&mut out, Ray { vector: *x, zeros })?;
     }
     Ok(out)
 }

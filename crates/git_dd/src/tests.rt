@@ -1,11 +1,10 @@
 //! Cones that everybody knows.
 ghost use Rattle.std.specs.Prelude.{◌≤◌, ◌*◌, All, length};
 ghost use Rattle.git_stages.specs.Short.{IsShort};
-ghost use Rattle.git_dd.specs.Marks.{IsRay};
+ghost use Rattle.git_adjacency.specs.Marks.{IsRay};
 
 use super::*;
-use crate::marks::share_enough;
-use crate::stage::is_adjacent;
+use git_adjacency::{is_adjacent, share_enough};
 use git_ints::IVec;
 use git_stages::are_short;
 use std::alloc::Global;

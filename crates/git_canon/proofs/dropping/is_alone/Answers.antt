@@ -2,8 +2,8 @@ use Rattle.std.proofs.Common.{◌≡◌, [], List, sym, ◌∙◌, subst, arith,
 use Rattle.std.proofs.lemmas.List.{take_all}
 use Rattle.git_defs.specs.Vectors.{Vector}
 use Rattle.git_geometry.specs.Zeros.{Dominates}
-use Rattle.git_dd.proofs.Nexts.{vector_at, vectors_long}
-use Rattle.git_dd.specs.Marks.{vectors}
+use Rattle.git_adjacency.proofs.Nexts.{vector_at, vectors_long}
+use Rattle.git_adjacency.specs.Marks.{vectors}
 use Rattle.git_canon.proofs.dropping.is_alone.Goals as goal
 use Rattle.std.proofs.lemmas.List.Elements.{Contains-get_or}
 use Rattle.git_stages.proofs.Fronts.{contains_more}

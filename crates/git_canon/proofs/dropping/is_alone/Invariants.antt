@@ -1,7 +1,7 @@
 use Rattle.std.proofs.Common.{◌≡◌, take}
 use Rattle.git_defs.specs.Vectors.{Vector}
 use Rattle.git_geometry.specs.Zeros.{Dominates}
-use Rattle.git_dd.specs.Marks.{vectors}
+use Rattle.git_adjacency.specs.Marks.{vectors}
 use Rattle.git_canon.proofs.dropping.is_alone.Given as goal
 use Rattle.std.specs.Prelude.{Contains}
 

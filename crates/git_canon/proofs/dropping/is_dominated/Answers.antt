@@ -1,7 +1,7 @@
 use Rattle.std.proofs.Common.{ℕ, List, subst}
 use Rattle.std.specs.Prelude.{◌↔◌, IsTrue}
-use Rattle.git_dd.proofs.Marking.{marks_flat, flat_marks}
-use Rattle.git_dd.specs.Marks.{HasMark}
+use Rattle.git_adjacency.proofs.Marking.{marks_flat, flat_marks}
+use Rattle.git_adjacency.specs.Marks.{HasMark}
 use Rattle.git_canon.proofs.dropping.is_dominated.Goals as goal
 
 pub returns : goal.returns

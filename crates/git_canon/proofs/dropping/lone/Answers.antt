@@ -2,8 +2,8 @@ use Rattle.std.proofs.Common.{◌+◌, ◌++◌, ◌∷◌, [], List, Vec, Globa
 use Rattle.std.proofs.lemmas.List.{take_all}
 use Rattle.git_defs.specs.Vectors.{Vector}
 use Rattle.git_ints.specs.declared.vector.IVec.{IVec}
-use Rattle.git_dd.proofs.Nexts.{vector_at, vectors_long}
-use Rattle.git_dd.specs.Marks.{vectors}
+use Rattle.git_adjacency.proofs.Nexts.{vector_at, vectors_long}
+use Rattle.git_adjacency.specs.Marks.{vectors}
 use Rattle.git_canon.proofs.Cones.{AloneTo, alone_none, alone_more, alone_skip, alone_all}
 use Rattle.git_canon.specs.Canons.{IsAlone}
 use Rattle.git_canon.proofs.dropping.lone.Goals.{then-is_alone+in_ok-add, else-is_alone}

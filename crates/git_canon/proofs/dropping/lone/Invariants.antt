@@ -1,5 +1,5 @@
 use Rattle.std.proofs.Common.{take}
-use Rattle.git_dd.specs.Marks.{vectors}
+use Rattle.git_adjacency.specs.Marks.{vectors}
 use Rattle.git_canon.proofs.Cones.{AloneTo}
 use Rattle.git_canon.proofs.dropping.lone.Given as goal
 

@@ -1,7 +1,7 @@
 use Rattle.std.proofs.Common.{List, ◌∙◌, ap, subst}
 use Rattle.git_defs.specs.Vectors.{Vector}
 use Rattle.git_geometry.specs.Zeros.{AreUndominated}
-use Rattle.git_dd.specs.Marks.{vectors}
+use Rattle.git_adjacency.specs.Marks.{vectors}
 use Rattle.git_canon.proofs.Cones.{undominated_sorted}
 use Rattle.git_canon.proofs.dropping.undominated.Goals as goal
 

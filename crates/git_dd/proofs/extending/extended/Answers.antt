@@ -2,7 +2,7 @@ use Rattle.std.proofs.Common.{List, subst}
 use Rattle.std.proofs.lemmas.List.{take_all}
 use Rattle.std.specs.Prelude.{All}
 use Rattle.git_defs.specs.Vectors.{Vector}
-use Rattle.git_dd.specs.Marks.{IsRay}
+use Rattle.git_adjacency.specs.Marks.{IsRay}
 use Rattle.git_dd.proofs.extending.extended.Goals as goal
 
 pub returns-clause-rays : goal.returns-clause-rays

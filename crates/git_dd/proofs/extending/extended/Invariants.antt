@@ -2,7 +2,7 @@ use Rattle.std.proofs.Common.{take, drop}
 use Rattle.std.specs.Prelude.{All}
 use Rattle.git_geometry.specs.Stages.{Exact}
 use Rattle.git_stages.specs.Narrow.{IsNarrowTo}
-use Rattle.git_dd.specs.Marks.{IsRay, vectors}
+use Rattle.git_adjacency.specs.Marks.{IsRay, vectors}
 use Rattle.git_dd.proofs.extending.extended.Given as goal
 
 abbrev pub invariant-loop-n : goal.invariant-loop-n

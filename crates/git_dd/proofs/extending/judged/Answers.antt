@@ -5,9 +5,9 @@ use Rattle.git_stages.specs.Prepared.{IsSortedSet}
 use Rattle.git_stages.specs.Wide.{IsLeastOf}
 use Rattle.git_dd.proofs.Extends.{exact_next, pointed_front}
 use Rattle.git_dd.proofs.Lates.{rays_short, narrow_few, narrow_tidied, wide_entry, wide_many}
-use Rattle.git_dd.proofs.Nexts.{vectors_long}
-use Rattle.git_dd.specs.Marks.{vectors}
-use Rattle.git_dd.specs.declared.ray.Ray.{Ray}
+use Rattle.git_adjacency.proofs.Nexts.{vectors_long}
+use Rattle.git_adjacency.specs.Marks.{vectors}
+use Rattle.git_adjacency.specs.declared.ray.Ray.{Ray}
 use Rattle.git_dd.proofs.extending.judged.Goals as goal
 
 pub returns-in-Some-clause-wide : goal.returns-in-Some-clause-wide

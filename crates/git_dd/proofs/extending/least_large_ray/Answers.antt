@@ -4,8 +4,8 @@ use Rattle.git_defs.specs.Vectors.{Vector}
 use Rattle.git_ints.specs.Padded.{AreWithin}
 use Rattle.git_stages.proofs.Least.{least_skip}
 use Rattle.git_stages.specs.Wide.{IsLeastOf}
-use Rattle.git_dd.proofs.Nexts.{vectors_long, vector_at}
-use Rattle.git_dd.specs.Marks.{vectors}
+use Rattle.git_adjacency.proofs.Nexts.{vectors_long, vector_at}
+use Rattle.git_adjacency.specs.Marks.{vectors}
 use Rattle.git_dd.proofs.extending.least_large_ray.Goals.{then-not-is_small, else-not-is_small}
 use Rattle.git_dd.proofs.extending.least_large_ray.Goals as goal
 

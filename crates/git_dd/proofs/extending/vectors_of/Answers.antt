@@ -1,7 +1,7 @@
 use Rattle.std.proofs.Common.{◌++◌, ◌∷◌, [], sym, ◌∙◌, arith}
 use Rattle.std.proofs.lemmas.List.{take_more, take_all}
-use Rattle.git_dd.proofs.Nexts.{vectors_long, vector_at}
-use Rattle.git_dd.specs.Marks.{vectors}
+use Rattle.git_adjacency.proofs.Nexts.{vectors_long, vector_at}
+use Rattle.git_adjacency.specs.Marks.{vectors}
 use Rattle.git_dd.proofs.extending.vectors_of.Goals as goal
 
 pub loop-r-preserved : goal.loop-r-preserved

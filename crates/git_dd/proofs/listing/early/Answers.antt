@@ -1,7 +1,7 @@
 use Rattle.std.proofs.Common.{subst}
 use Rattle.git_stages.proofs.Shorts.{short_length}
 use Rattle.git_dd.proofs.Finals.{rank_from}
-use Rattle.git_dd.specs.Stops.{IsEarlyStop}
+use Rattle.git_elimination.specs.Stops.{IsEarlyStop}
 use Rattle.git_dd.proofs.listing.early.Goals as goal
 
 pub returns-else-n-k : goal.returns-else-n-k

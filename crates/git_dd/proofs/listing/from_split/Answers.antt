@@ -6,7 +6,7 @@ use Rattle.git_stages.specs.Prepared.{IsSortedSet}
 use Rattle.git_stages.specs.Short.{IsShort}
 use Rattle.git_dd.proofs.Ends.{ordered_few, ordered_pointed, ordered_exact, ordered_narrow, late_wide_fault, never_at, rays_at, list_short}
 use Rattle.git_dd.proofs.Finals.{has_rank}
-use Rattle.git_dd.specs.Marks.{vectors}
+use Rattle.git_adjacency.specs.Marks.{vectors}
 use Rattle.git_dd.specs.Tights.{AreAllTight}
 use Rattle.git_dd.proofs.listing.from_split.Goals as goal
 

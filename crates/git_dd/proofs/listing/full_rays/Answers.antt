@@ -4,8 +4,8 @@ use Rattle.git_defs.specs.Vectors.{Vector}
 use Rattle.git_stages.proofs.Prepares.{prepared_short}
 use Rattle.git_stages.specs.Short.{IsShort}
 use Rattle.git_dd.proofs.Ends.{rank_k, early_wide_fault}
-use Rattle.git_dd.specs.Progress.{Progress}
-use Rattle.git_dd.specs.Stops.{IsEarlyStop}
+use Rattle.git_elimination.specs.Progress.{Progress}
+use Rattle.git_elimination.specs.Stops.{IsEarlyStop}
 use Rattle.git_dd.proofs.listing.full_rays.Goals as goal
 
 pub split_all-requires-clause-short : goal.split_all-requires-clause-short

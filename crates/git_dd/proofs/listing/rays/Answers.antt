@@ -7,7 +7,7 @@ use Rattle.git_stages.specs.Ranks.{IsRank}
 use Rattle.git_stages.specs.Short.{IsShort}
 use Rattle.git_dd.proofs.Ends.{rank_at_end, whole_fault}
 use Rattle.git_dd.proofs.Finals.{rank_from}
-use Rattle.git_dd.specs.Progress.{Progress}
+use Rattle.git_elimination.specs.Progress.{Progress}
 use Rattle.git_dd.proofs.listing.rays.Goals as goal
 
 pub split_all-requires-clause-short : goal.split_all-requires-clause-short
