@@ -1,13 +1,13 @@
 -- How runs of faces stop.
-use Rattle.std.proofs.Common.{◌≡◌, ◌⊎◌, ℕ, ◌≤◌, List, refl, sym, ◌∙◌, inl, inr, arith}
+use Rattle.std.proofs.Common.{◌≡◌, ℕ, ◌≤◌, sym, ◌∙◌, inl, inr, arith}
 use Rattle.git_base.specs.declared.status.Status.{Status}
-use Rattle.git_base.specs.declared.status.Status.TheVariants.{Steps, Degree}
 use Rattle.git_basis.proofs.One.{steps_not_by_degree}
 use Rattle.git_input.specs.Inputs.{InputValue}
-use Rattle.git_answers.specs.Cases.{HasOne, IsFirst, says}
-use Rattle.git_answers.specs.Verdicts.{StopsWith, StopsAt, stop_text, start_at}
+use Rattle.git_replies.specs.Cases.{HasOne, IsFirst, says}
+use Rattle.git_answers.specs.Verdicts.{StopsWith, StopsAt, start_at}
+use Rattle.git_replies.specs.Lines.{stop_text}
 use Rattle.git_answers.specs.Faces.{face_stops, certifies, faces_of}
-use Rattle.git_answers.proofs.CaseLaws.{one_of, one_by, one_is, one_first}
+use Rattle.git_replies.proofs.CaseLaws.{one_of, one_by, one_is, one_first}
 
 -- a run stops in one way
 pub one_stop : (v : InputValue) (limit mask : ℕ) → HasOne (StopsWith v limit mask)

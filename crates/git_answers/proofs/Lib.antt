@@ -1,4 +1,2 @@
-pub mod CaseLaws
-pub mod ReadLaws
 pub mod FaceLaws
 pub mod Replies

@@ -1,15 +1,15 @@
 -- The reply of a case, and of the cases before it.
-use Rattle.std.proofs.Common.{◌≡◌, ℕ, ◌≤◌, List, [], ◌++◌, length, inl, inr, refl, sym, ◌∙◌, subst, Result, Ok, Err, Option, Some, None}
+use Rattle.std.proofs.Common.{◌≡◌, ℕ, ◌≤◌, List, [], length, inl, inr, refl, sym, ◌∙◌, subst, Result, Ok, Err, Option, Some, None}
 use Rattle.std.proofs.lemmas.List.{append-nil}
 use Rattle.std.specs.Prelude.{IfOk, IfSome}
 use Rattle.git_base.specs.declared.status.Status.{Status}
 use Rattle.git_limits.specs.declared.TheConstants.{INPUT_BYTES}
 use Rattle.git_input.specs.Inputs.{InputValue}
 use Rattle.git_text.specs.Grammar.{IsInput}
-use Rattle.git_answers.specs.Cases.{Case, Outcome, Passes, ◌otherwise◌, says}
-use Rattle.git_answers.specs.Reads.{reads}
-use Rattle.git_answers.specs.Ends.{spelled, spelled_of, Reply, over, Ends, whole, cut, unread, starved, WritesOr}
-use Rattle.git_answers.proofs.ReadLaws.{few_pass, input_passes}
+use Rattle.git_replies.specs.Cases.{Case, Outcome, Passes, ◌otherwise◌, says}
+use Rattle.git_replies.specs.Reads.{reads}
+use Rattle.git_answers.specs.Ends.{spelled, spelled_of, Reply, Ends, whole, cut, unread, starved, WritesOr}
+use Rattle.git_replies.proofs.ReadLaws.{few_pass, input_passes}
 
 module _ (v : InputValue) where
   -- a text with no certificates

@@ -6,7 +6,7 @@ use Rattle.git_base.specs.Prefixes.{GrowsByPrefix}
 use Rattle.git_base.specs.declared.status.Status.{Status}
 use Rattle.git_base.specs.declared.status.Status.TheVariants.{ReadFault, WriteFault, NoMemory}
 use Rattle.git_input.specs.Inputs.{InputValue}
-use Rattle.git_answers.specs.Cases.{Tail, nothing, Outcome, Case}
+use Rattle.git_replies.specs.Cases.{Tail, nothing, Outcome, Case}
 use Rattle.git_answers.specs.Verdicts.{IsTail}
 
 -- a status and its text

@@ -1,10 +1,11 @@
 -- The answer of `faces` by cases.
-use Rattle.std.specs.Prelude.{◌≡◌, ℕ, ◌≤◌, List, []}
+use Rattle.std.specs.Prelude.{◌≡◌, ℕ, ◌≤◌, []}
 use Rattle.git_base.specs.declared.status.Status.{Status}
 use Rattle.git_base.specs.declared.status.Status.TheVariants.{Done}
 use Rattle.git_input.specs.Inputs.{InputValue}
-use Rattle.git_answers.specs.Cases.{Case, ◌otherwise◌, IsFirst, says, certificates}
-use Rattle.git_answers.specs.Verdicts.{StopsAt, StopsWith, stop_text}
+use Rattle.git_replies.specs.Cases.{Case, ◌otherwise◌, IsFirst, says, certificates}
+use Rattle.git_answers.specs.Verdicts.{StopsAt, StopsWith}
+use Rattle.git_replies.specs.Lines.{stop_text}
 
 -- the run of a full face stops: the greatest such face is named
 abbrev pub face_stops : InputValue → ℕ → Case

@@ -1,31 +1,27 @@
 -- The answer of `fan` by cases.
-use Rattle.std.specs.Prelude.{◌≡◌, ◌≢◌, ℕ, ◌+◌, ◌*◌, ◌^◌, ◌<◌, ◌≤◌, Bool, true, false, List, [], ◌∷◌, ◌++◌, length, map, codes}
-use Rattle.std.specs.List.{sum_by, count_by}
-use Rattle.std.specs.Fmt.{decimal, signed_decimal}
+use Rattle.std.specs.Prelude.{◌≡◌, ◌≢◌, ℕ, ◌+◌, ◌*◌, ◌^◌, ◌<◌, ◌≤◌, length}
 use Rattle.std.specs.declared.cmp.Ordering.TheVariants.{Greater}
 use Rattle.git_base.specs.declared.status.Status.{Status}
 use Rattle.git_base.specs.declared.status.Status.TheVariants.{Done, Monomial, Wide, Crossed, Full, TableWide}
-use Rattle.git_lines.specs.Printing.{line_text}
-use Rattle.git_defs.specs.Vectors.{Vector}
 use Rattle.git_defs.specs.Faces.{face, IsLeastMask}
 use Rattle.git_stages.specs.Wide.{IsWideAt}
 use Rattle.git_stages.specs.declared.wide.WideAt.{WideAt}
-use Rattle.git_stages.specs.declared.wide.WideWhat.{WideWhat}
-use Rattle.git_stages.specs.declared.wide.WideWhat.TheVariants.{Entry, Many}
 use Rattle.git_ideals.specs.Faces.{IsAFace}
 use Rattle.git_input.specs.Inputs.{InputValue}
-use Rattle.git_machine.specs.Signatures.{Signature, numbers_of, signature_cmp}
+use Rattle.git_machine.specs.Signatures.{Signature, signature_cmp}
 use Rattle.git_machine.specs.Reach.{Reached, ReachExceeds}
 use Rattle.git_orbit.specs.Orbits.{Fan, AreOrbitCones}
 use Rattle.git_orbit.specs.Signatures.{IsSignature, width_of}
-use Rattle.git_listing.specs.Listings.{Side, boundary, inner, Chamber, Listing}
+use Rattle.git_listing.specs.Listings.{Listing}
 use Rattle.git_listing.specs.ListingText.{listing_text}
 use Rattle.git_chamber.specs.Chambers.{first_germ, IsCell, IsNext}
 use Rattle.git_chamber.specs.Listings.{IsListing}
 use Rattle.git_chamber.specs.declared.cell.Cell.{Cell}
 use Rattle.git_chamber.specs.declared.cell.Cell.TheVariants as cell
-use Rattle.git_answers.specs.Cases.{Case, block, certificates, ◌otherwise◌, IsFirst, Outcome, says}
-use Rattle.git_answers.specs.Verdicts.{whole_face, StopsAt, StopsWith, stop_text}
+use Rattle.git_replies.specs.Cases.{Case, block, certificates, ◌otherwise◌, IsFirst, Outcome, says}
+use Rattle.git_answers.specs.Verdicts.{whole_face, StopsAt, StopsWith}
+use Rattle.git_replies.specs.Lines.{crossed_text, full_text, monomial_text, stop_text, table_wide_text, wide_chamber_text, wide_face_text}
+use Rattle.git_replies.specs.Counts.{counts_text}
 use Rattle.git_answers.specs.declared.output.Output.{Output}
 use Rattle.git_answers.specs.declared.output.Output.TheVariants.{Plain, Certified, Counted}
 
@@ -34,6 +30,9 @@ pub record Options : Type 0 where
   pub table : ℕ
   pub steps : ℕ
   pub output : Output
+
+abbrev pub options : ℕ → ℕ → Output → Options
+options table steps output = record { table = table; steps = steps; output = output }
 
 -- ---- the fan of an input
 
@@ -51,68 +50,7 @@ pub record IsOpening (v : InputValue) (fan : Fan) (first : Signature) : Type 0 w
 abbrev pub IsWideFace : InputValue → ℕ → WideAt → Type 0
 IsWideFace v mask at = IsLeastMask v.degrees.k v.degrees.columns (IsAFace v.generators) mask × IsWideAt v.degrees.k (face v.degrees.columns mask) at.stage at.what
 
--- ---- the lines
-
-abbrev pub vector_words : Vector → List (List ℕ)
-vector_words x = map signed_decimal x
-
--- where a stage is wide: the vector, or that there are many
-abbrev pub what_words : WideWhat → List (List ℕ)
-what_words (Entry x) = codes "vector" ∷ vector_words x
-what_words Many = codes "many" ∷ []
-
-abbrev pub at_words : WideAt → List (List ℕ)
-at_words at = codes "stage" ∷ decimal at.stage ∷ what_words at.what
-
-abbrev pub wide_face_text : ℕ → WideAt → List ℕ
-wide_face_text mask at = line_text (codes "refused" ∷ codes "wide" ∷ codes "face" ∷ decimal mask ∷ at_words at)
-
--- the numbers of a signature's cones, ascending
-abbrev pub number_words : Signature → List (List ℕ)
-number_words sig = map decimal (numbers_of sig)
-
-abbrev pub wide_chamber_text : Signature → WideAt → List ℕ
-wide_chamber_text sig at = line_text (codes "refused" ∷ codes "wide" ∷ codes "chamber" ∷ number_words sig ++ at_words at)
-
-abbrev pub weight_words : Vector → List (List ℕ)
-weight_words weight = codes "weight" ∷ vector_words weight
-
-abbrev pub cone_words : ℕ → List (List ℕ)
-cone_words cone = codes "cone" ∷ decimal cone ∷ []
-
--- the cones of the signature, its chamber's weight, and the least number in which the weight's signature differs
-abbrev pub crossed_text : Signature → Vector → ℕ → List ℕ
-crossed_text sig weight cone = line_text (codes "refused" ∷ codes "crossed" ∷ codes "cones" ∷ number_words sig ++ (weight_words weight ++ cone_words cone))
-
-abbrev pub table_wide_text : ℕ → ℕ → List ℕ
-table_wide_text table width = line_text (codes "refused" ∷ codes "tablewide" ∷ decimal table ∷ decimal width ∷ [])
-
-abbrev pub full_text : ℕ → List ℕ
-full_text table = line_text (codes "refused" ∷ codes "full" ∷ decimal table ∷ [])
-
-abbrev pub monomial_text : List ℕ
-monomial_text = line_text (codes "refused" ∷ codes "monomial" ∷ [])
-
--- the sides that are inner walls, and those on the boundary
-abbrev pub is_inner : Side → Bool
-is_inner boundary = false
-is_inner (inner n) = true
-
-abbrev pub is_boundary : Side → Bool
-is_boundary boundary = true
-is_boundary (inner n) = false
-
--- how many facets of all chambers have such a side
-abbrev pub facets_with : (Side → Bool) → List Chamber → ℕ
-facets_with test chambers = sum_by (λ c. count_by (λ f. test f.side) c.facets) chambers
-
--- the line of so many cones, chambers, inner walls and facets on the boundary
-abbrev pub tally_text : ℕ → ℕ → ℕ → ℕ → List ℕ
-tally_text cones chambers within outer =
-    line_text (codes "cones" ∷ decimal cones ∷ codes "chambers" ∷ decimal chambers ∷ codes "inner" ∷ decimal within ∷ codes "boundary" ∷ decimal outer ∷ [])
-
-abbrev pub counts_text : Listing → List ℕ
-counts_text l = tally_text l.cones (length l.chambers) (facets_with is_inner l.chambers) (facets_with is_boundary l.chambers)
+-- ---- what is written
 
 -- what is written of a listing
 abbrev pub written : Output → Listing → Outcome

@@ -1,6 +1,8 @@
-pub mod Cases
-pub mod Refusals
-pub mod Reads
+pub use Rattle.git_replies.specs.Cases
+pub use Rattle.git_replies.specs.Counts
+pub use Rattle.git_replies.specs.Lines
+pub use Rattle.git_replies.specs.Reads
+pub use Rattle.git_replies.specs.Refusals
 pub mod Verdicts
 pub mod Faces
 pub mod Fan

@@ -1,9 +1,7 @@
 -- The full faces of an input, how their runs stop, and their certificates.
-use Rattle.std.specs.Prelude.{◌≡◌, ◌↔◌, ◌⊎◌, ℕ, ◌-◌, ◌<◌, ◌^◌, List, [], ◌∷◌, ◌++◌, length, map, codes, All, AllPairs, Contains}
-use Rattle.std.specs.Fmt.{decimal}
+use Rattle.std.specs.Prelude.{◌≡◌, ◌↔◌, ◌⊎◌, ℕ, ◌-◌, ◌<◌, ◌^◌, List, [], length, map, All, AllPairs, Contains}
 use Rattle.git_base.specs.declared.status.Status.{Status}
 use Rattle.git_base.specs.declared.status.Status.TheVariants.{Steps, Degree}
-use Rattle.git_lines.specs.Printing.{line_text}
 use Rattle.git_defs.specs.Faces.{IsConeFace}
 use Rattle.git_ideals.specs.Faces.{IsAFace}
 use Rattle.git_input.specs.Inputs.{InputValue}
@@ -14,7 +12,7 @@ use Rattle.git_saturate.specs.Starts.{start_of}
 use Rattle.git_saturate.specs.Verdicts.{IsCertificate, IsFree}
 use Rattle.git_facecert.specs.declared.certificate.FaceVerdict.{FaceVerdict}
 use Rattle.git_certtext.specs.CertificateText.{block_text, certificates_text}
-use Rattle.git_answers.specs.Cases.{Tail, nothing, block, certificates, Outcome, Case}
+use Rattle.git_replies.specs.Cases.{Tail, nothing, block, certificates}
 
 -- a full face of the input
 abbrev pub IsFullFace : InputValue → ℕ → Type 0
@@ -33,14 +31,6 @@ abbrev pub StopsWith : InputValue → ℕ → ℕ → Status → Type 0
 StopsWith v limit mask s =
     ((s ≡ Steps) × ((made : List Step) × StopsBySteps (start_at v mask) limit made))
     ⊎ ((s ≡ Degree) × ((made : List Step) × (step : Step) × StopsByDegree (start_at v mask) limit made step))
-
-abbrev pub stop_word : Status → List ℕ
-stop_word Steps = codes "steps"
-stop_word Degree = codes "degree"
-stop_word s = []
-
-abbrev pub stop_text : Status → ℕ → List ℕ
-stop_text s mask = line_text (codes "refused" ∷ stop_word s ∷ decimal mask ∷ [])
 
 -- a full face whose run stops
 abbrev pub StopsAt : InputValue → ℕ → ℕ → Type 0

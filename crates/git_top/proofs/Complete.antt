@@ -4,19 +4,19 @@ use Rattle.git_base.specs.declared.status.Status.{Status}
 use Rattle.git_input.specs.Inputs.{InputValue}
 use Rattle.git_text.specs.Grammar.{IsInput}
 use Rattle.git_text.proofs.Matrices.{text_is_a_grading}
-use Rattle.git_answers.specs.Cases.{Outcome, ◌otherwise◌}
+use Rattle.git_replies.specs.Cases.{Outcome, ◌otherwise◌}
 use Rattle.git_answers.specs.Faces.{face_stops, certifies, faces_of}
-use Rattle.git_answers.specs.Fan.{Options, whole_stops, has_monomial, other_stops, wide_cone, table_wide, table_full, not_good, lists, after_reach, after_cones, after_verdicts, after_whole, fan_of}
-use Rattle.git_answers.proofs.CaseLaws.{later}
-use Rattle.git_answers.proofs.ReadLaws.{reads_input}
+use Rattle.git_answers.specs.Fan.{Options, whole_stops, has_monomial, other_stops, wide_cone, table_wide, table_full, not_good, lists, after_reach, after_cones, after_verdicts, after_whole, fan_of, options}
+use Rattle.git_replies.proofs.CaseLaws.{later}
+use Rattle.git_replies.proofs.ReadLaws.{reads_input}
 use Rattle.git_answers.specs.Verdicts.{whole_face}
 use Rattle.git_base.specs.declared.status.Status.TheVariants.{Done}
 use Rattle.git_grading.specs.Gradings.{IsGrading}
 use Rattle.git_make.proofs.Inputs.{one_input, samples_are_inputs}
-use Rattle.git_top.specs.Commands.{options, output_of, sample_options}
+use Rattle.git_commands.specs.Commands.{output_of, sample_options}
 use Rattle.git_top.specs.Laws.{FacesAreDone, InputsAreDone, NothingRefuses, SamplesAreDone}
-use Rattle.git_top.proofs.NotGood.{written_done}
-use Rattle.git_top.proofs.FullFaces.{whole_full}
+use Rattle.git_fan.proofs.NotGood.{written_done}
+use Rattle.git_fan.proofs.FullFaces.{whole_full}
 
 pub faces_are_done : FacesAreDone
 faces_are_done steps bytes v o few is ends h =

@@ -16,10 +16,11 @@ use Rattle.git_words.proofs.Decided.{command_or_none}
 use Rattle.git_words.proofs.OneCommand.{commands_are_in_range}
 use Rattle.git_make.specs.Samples.{IsSample}
 use Rattle.git_make.proofs.Inputs.{some_input, samples_are_inputs}
-use Rattle.git_answers.specs.Cases.{HasSome, says}
-use Rattle.git_answers.proofs.ReadLaws.{reads_some}
-use Rattle.git_top.specs.Commands.{cases_of, options, output_of, sample_options}
-use Rattle.git_top.specs.Run.{command_answer, usage_text}
+use Rattle.git_replies.specs.Cases.{HasSome, says}
+use Rattle.git_replies.proofs.ReadLaws.{reads_some}
+use Rattle.git_commands.specs.Commands.{cases_of, output_of, sample_options, command_answer}
+use Rattle.git_answers.specs.Fan.{options}
+use Rattle.git_top.specs.Run.{usage_text}
 use Rattle.git_top.specs.Laws.{EachHasAnAnswer}
 use Rattle.git_top.proofs.FacesExist.{faces_some}
 use Rattle.git_top.proofs.FanExist.{fan_some}
@@ -30,7 +31,7 @@ cases_some (Faces steps) v grading are = faces_some v steps grading
 cases_some (Make sample false) v grading are = (says Done (input_text v), refl)
 cases_some (Make sample true) v grading are = fan_some v sample_options grading are
 
-read_some : (c : Command) (bytes : List ℕ) → HasSome (Rattle.git_answers.specs.Reads.reads (cases_of c) bytes)
+read_some : (c : Command) (bytes : List ℕ) → HasSome (Rattle.git_replies.specs.Reads.reads (cases_of c) bytes)
 read_some c bytes =
     reads_some (cases_of c) bytes (λ v is. cases_some c v (text_is_a_grading is.matrix_lines v.degrees is.matrix) (are_generators v.degrees is.ideal is.polynomials v.generators is.ideal_is is.polynomials_are))
 

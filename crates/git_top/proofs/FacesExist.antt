@@ -13,11 +13,12 @@ use Rattle.git_faces.specs.FaceVerdicts.{RunEnds}
 use Rattle.git_faces.specs.Laws.{RunStops}
 use Rattle.git_faces.proofs.FullLists.{some as full_list}
 use Rattle.git_faces.proofs.FirstStops.{some as first_or_all}
-use Rattle.git_answers.specs.Cases.{HasSome, Settles, says, certificates}
-use Rattle.git_answers.specs.Verdicts.{StopsWith, stop_text}
+use Rattle.git_replies.specs.Cases.{HasSome, Settles, says, certificates}
+use Rattle.git_answers.specs.Verdicts.{StopsWith}
+use Rattle.git_replies.specs.Lines.{stop_text}
 use Rattle.git_answers.specs.Faces.{face_stops, certifies, faces_of}
-use Rattle.git_answers.proofs.CaseLaws.{some_of}
-use Rattle.git_top.proofs.FullFaces.{first_full, runs_on}
+use Rattle.git_replies.proofs.CaseLaws.{some_of}
+use Rattle.git_fan.proofs.FullFaces.{first_full, runs_on}
 
 -- how it stops
 pub stop_of : (v : InputValue) (limit mask : ℕ) → RunStops v.generators limit mask → (s : Status) × StopsWith v limit mask s

@@ -57,14 +57,15 @@ use Rattle.git_faces.specs.FaceVerdicts.{RunEnds}
 use Rattle.git_faces.specs.FullFaces.{AreFullFaces}
 use Rattle.git_faces.proofs.FullLists.{some as full_list}
 use Rattle.git_faces.proofs.FirstStops.{some as first_or_all}
-use Rattle.git_answers.specs.Cases.{Passes, HasSome, Settles, IsFirst, Outcome, says, block, ◌otherwise◌}
-use Rattle.git_answers.specs.Verdicts.{IsFullFace, StopsWith, StopsAt, stop_text, start_at, whole_face}
-use Rattle.git_answers.specs.Fan.{Options, written, IsFanOf, IsOpening, IsWideFace, IsBad, IsRefused, Refuses, UpTo, monomial_text, wide_face_text, wide_chamber_text, crossed_text, table_wide_text, full_text, whole_stops, has_monomial, other_stops, wide_cone, table_wide, table_full, not_good, lists, after_reach, after_cones, after_verdicts, after_whole, fan_of}
-use Rattle.git_answers.proofs.CaseLaws.{some_of}
+use Rattle.git_replies.specs.Cases.{Passes, HasSome, Settles, IsFirst, Outcome, says, block, ◌otherwise◌}
+use Rattle.git_answers.specs.Verdicts.{IsFullFace, StopsWith, StopsAt, start_at, whole_face}
+use Rattle.git_replies.specs.Lines.{stop_text, monomial_text, wide_face_text, wide_chamber_text, crossed_text, table_wide_text, full_text}
+use Rattle.git_answers.specs.Fan.{Options, written, IsFanOf, IsOpening, IsWideFace, IsBad, IsRefused, Refuses, UpTo, whole_stops, has_monomial, other_stops, wide_cone, table_wide, table_full, not_good, lists, after_reach, after_cones, after_verdicts, after_whole, fan_of}
+use Rattle.git_replies.proofs.CaseLaws.{some_of}
 use Rattle.git_top.proofs.FacesExist.{stop_of}
-use Rattle.git_top.proofs.FullFaces.{runs_on, whole_full, StartsWhole, starts_whole, first_other}
-use Rattle.git_top.proofs.NotGood.{good_not_refused}
-use Rattle.git_top.proofs.OneFan.{one_fan, opening_along}
+use Rattle.git_fan.proofs.FullFaces.{runs_on, whole_full, StartsWhole, starts_whole, first_other}
+use Rattle.git_fan.proofs.NotGood.{good_not_refused}
+use Rattle.git_fan.proofs.OneFan.{one_fan, opening_along}
 
 -- ---- those of a list that are accepted
 record Kept (P : ℕ → Type 0) (ms us : List ℕ) : Type 0 where

@@ -21,12 +21,13 @@ use Rattle.git_chamber.proofs.Uniqueness.{one_cell}
 use Rattle.git_chamber.specs.declared.cell.Cell.{Cell}
 use Rattle.git_chamber.specs.declared.cell.Cell.TheVariants as cell
 use Rattle.git_assemble.proofs.OneListing.{one_listing}
-use Rattle.git_answers.specs.Cases.{Case, Passes, HasOne, IsFirst, Outcome, says, ◌otherwise◌}
-use Rattle.git_answers.specs.Verdicts.{StopsWith, StopsAt, stop_text, whole_face}
-use Rattle.git_answers.specs.Fan.{Options, IsOpening, IsBad, IsRefused, Refuses, UpTo, IsWideFace, wide_face_text, table_wide_text, whole_stops, has_monomial, other_stops, wide_cone, table_wide, table_full, written, not_good, lists, after_reach, after_cones, after_verdicts, after_whole, fan_of}
-use Rattle.git_answers.proofs.CaseLaws.{one_of, one_by, one_is, one_first}
+use Rattle.git_replies.specs.Cases.{Case, Passes, HasOne, IsFirst, Outcome, says, ◌otherwise◌}
+use Rattle.git_answers.specs.Verdicts.{StopsWith, StopsAt, whole_face}
+use Rattle.git_replies.specs.Lines.{stop_text, wide_face_text, table_wide_text}
+use Rattle.git_answers.specs.Fan.{Options, IsOpening, IsBad, IsRefused, Refuses, UpTo, IsWideFace, whole_stops, has_monomial, other_stops, wide_cone, table_wide, table_full, written, not_good, lists, after_reach, after_cones, after_verdicts, after_whole, fan_of, options}
+use Rattle.git_replies.proofs.CaseLaws.{one_of, one_by, one_is, one_first}
 use Rattle.git_answers.proofs.FaceLaws.{one_stop, first_stop_one, faces_one}
-use Rattle.git_answers.proofs.ReadLaws.{reads_one}
+use Rattle.git_replies.proofs.ReadLaws.{reads_one}
 use Rattle.git_words.specs.Words.{IsCommand}
 use Rattle.git_words.specs.declared.commands.Command.{Command}
 use Rattle.git_words.specs.declared.commands.Command.TheVariants as command
@@ -34,10 +35,10 @@ use Rattle.git_words.proofs.OneCommand.{one_command}
 use Rattle.git_make.specs.Samples.{IsSample}
 use Rattle.git_make.proofs.Inputs.{one_input}
 use Rattle.git_text.specs.Writing.{input_text}
-use Rattle.git_top.specs.Commands.{cases_of, options, output_of, sample_options}
-use Rattle.git_top.specs.Run.{no_command, command_answer, answer_to}
+use Rattle.git_commands.specs.Commands.{cases_of, output_of, sample_options, command_answer}
+use Rattle.git_top.specs.Run.{no_command, answer_to}
 use Rattle.git_top.specs.Laws.{OneAnswer}
-use Rattle.git_top.proofs.OneFan.{one_fan, opening_along}
+use Rattle.git_fan.proofs.OneFan.{one_fan, opening_along}
 
 -- ---- fan
 

@@ -12,7 +12,7 @@ use Rattle.git_machine.specs.Reach.{ReachExceeds}
 use Rattle.git_orbit.specs.Orbits.{Fan}
 use Rattle.git_orbit.specs.Signatures.{width_of}
 use Rattle.git_chamber.specs.Chambers.{IsNext}
-use Rattle.git_answers.specs.Cases.{Passes, HasOne, HasSome, Outcome}
+use Rattle.git_replies.specs.Cases.{Passes, HasOne, HasSome, Outcome}
 use Rattle.git_answers.specs.Verdicts.{IsFullFace, StopsWith, whole_face}
 use Rattle.git_answers.specs.Fan.{IsFanOf, IsOpening, IsWideFace, IsBad}
 use Rattle.git_words.specs.declared.commands.TheConstants.{TABLE_UNSET, STEPS_UNSET}
@@ -20,7 +20,8 @@ use Rattle.git_words.specs.declared.commands.Sample.{Sample}
 use Rattle.git_words.specs.declared.commands.Command.TheVariants as command
 use Rattle.git_words.specs.Laws.{IsSampleInRange}
 use Rattle.git_make.specs.Samples.{IsSample}
-use Rattle.git_top.specs.Run.{answer_to, command_answer}
+use Rattle.git_top.specs.Run.{answer_to}
+use Rattle.git_commands.specs.Commands.{command_answer}
 
 -- words and bytes have one answer at most: its status, its text, and which certificates follow
 abbrev pub OneAnswer : Type 0

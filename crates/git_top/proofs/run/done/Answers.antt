@@ -2,7 +2,7 @@ use Rattle.std.proofs.Common.{sym, subst}
 use Rattle.git_base.specs.Faults.{HasRisen}
 use Rattle.git_answers.specs.Ends.{over, Ends}
 use Rattle.git_words.specs.declared.commands.Command.{Command}
-use Rattle.git_top.specs.Run.{reply_of}
+use Rattle.git_commands.specs.Commands.{reply_of}
 use Rattle.git_top.proofs.Replied.{made_ends}
 use Rattle.git_top.proofs.run.done.Goals as goal
 

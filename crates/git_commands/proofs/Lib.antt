@@ -1,0 +1,2 @@
+pub mod FaceAnswers
+pub mod Replied

@@ -1,0 +1,4 @@
+pub use Rattle.git_base.specs.Faults
+pub use Rattle.git_base.specs.Prefixes
+pub use Rattle.git_answers.specs.Ends
+pub mod Commands

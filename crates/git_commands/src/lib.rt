@@ -1,0 +1,9 @@
+//! The commands, each a call over a source and a sink.
+#![tactic(auto)]
+
+mod answering;
+mod calls;
+mod faces;
+mod sampling;
+
+pub use calls::{faces_run, fan_crew, fan_plain, make_run, write_text};

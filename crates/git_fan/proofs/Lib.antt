@@ -1,0 +1,5 @@
+pub mod FullFaces
+pub mod Accepted
+pub mod OneFan
+pub mod NotGood
+pub mod Opens

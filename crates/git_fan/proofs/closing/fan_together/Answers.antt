@@ -1,0 +1,25 @@
+use Rattle.std.proofs.Common.{◌≡◌, sym, subst, ap}
+use Rattle.std.specs.Prelude.{List}
+use Rattle.git_facecert.specs.declared.certificate.FaceVerdict.{FaceVerdict}
+use Rattle.git_answers.specs.Fan.{fan_of, options}
+use Rattle.git_answers.specs.Verdicts.{AreVerdicts}
+use Rattle.git_fan.specs.Fans.{IsOpened, IsOpenFan, IsGraphOf}
+use Rattle.git_fan.proofs.Opens.{closed_answers}
+use Rattle.git_fan.proofs.closing.fan_together.Goals as goal
+
+pub closed_together-requires-clause-small : goal.closed_together-requires-clause-small
+closed_together-requires-clause-small g c κs lives = (let h : IsOpenFan c.args.input.now (options c.args.table c.args.steps c.args.output) (fan_of (options c.args.table c.args.steps c.args.output) c.args.input.now) c.in-Open.graph c.in-Open.faces.items = subst (IsOpened c.args.input.now (options c.args.table c.args.steps c.args.output) (fan_of (options c.args.table c.args.steps c.args.output) c.args.input.now)) c.in-Open.is (c.in_ok-reply.ensures c.args.output) in h.small)
+
+pub closed_together-requires-clause-room : goal.closed_together-requires-clause-room
+closed_together-requires-clause-room g c κs lives = (let h : IsOpenFan c.args.input.now (options c.args.table c.args.steps c.args.output) (fan_of (options c.args.table c.args.steps c.args.output) c.args.input.now) c.in-Open.graph c.in-Open.faces.items = subst (IsOpened c.args.input.now (options c.args.table c.args.steps c.args.output) (fan_of (options c.args.table c.args.steps c.args.output) c.args.input.now)) c.in-Open.is (c.in_ok-reply.ensures c.args.output) in h.room)
+
+pub returns-in-Decided : goal.returns-in-Decided
+returns-in-Decided g c = subst (IsOpened c.args.input.now (options c.args.table c.args.steps c.args.output) (fan_of (options c.args.table c.args.steps c.args.output) c.args.input.now)) c.in-Decided.is (c.in_ok-reply.ensures c.args.output)
+
+pub returns-in-Open : goal.returns-in-Open
+returns-in-Open g c =
+    let v = c.args.input.now in
+    let n = options c.args.table c.args.steps c.args.output in
+    let h : IsOpenFan v n (fan_of n v) c.in-Open.graph c.in-Open.faces.items = subst (IsOpened v n (fan_of n v)) c.in-Open.is (c.in_ok-reply.ensures c.args.output) in
+    closed_answers v n (fan_of n v) c.in-Open.graph c.in-Open.faces.items c.closed_together.result h
+    (c.closed_together.ensures v c.args.steps h.graph (subst (AreVerdicts v) (sym c.deref.ensures.value) h.verdicts))

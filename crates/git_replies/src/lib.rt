@@ -1,0 +1,17 @@
+//! What is replied: answers by cases, the lines of refusals and of counts, and what a source has left, as an
+//! input or as the answer to bytes that are none.
+#![tactic(auto)]
+
+mod counts;
+mod lines;
+mod reading;
+mod refusal;
+mod reply;
+
+pub use counts::counts_line;
+pub use lines::{
+    crossed_line, degree_line, full_line, steps_line, table_wide_line, wide_chamber_line,
+    wide_face_line,
+};
+pub use reading::{Reading, read};
+pub use reply::{Reply, Unanswered};
