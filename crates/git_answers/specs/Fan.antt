@@ -2,7 +2,7 @@
 use Rattle.std.specs.Prelude.{◌≡◌, ◌≢◌, ℕ, ◌+◌, ◌*◌, ◌^◌, ◌<◌, ◌≤◌, length}
 use Rattle.std.specs.declared.cmp.Ordering.TheVariants.{Greater}
 use Rattle.git_base.specs.declared.status.Status.{Status}
-use Rattle.git_base.specs.declared.status.Status.TheVariants.{Done, Monomial, Wide, Crossed, Full, TableWide}
+use Rattle.git_base.specs.declared.status.Status.TheVariants.{Done, Monomial, Wide, Full, TableWide}
 use Rattle.git_defs.specs.Faces.{face, IsLeastMask}
 use Rattle.git_stages.specs.Wide.{IsWideAt}
 use Rattle.git_stages.specs.declared.wide.WideAt.{WideAt}
@@ -20,7 +20,7 @@ use Rattle.git_chamber.specs.declared.cell.Cell.{Cell}
 use Rattle.git_chamber.specs.declared.cell.Cell.TheVariants as cell
 use Rattle.git_replies.specs.Cases.{Case, block, certificates, ◌otherwise◌, IsFirst, Outcome, says}
 use Rattle.git_answers.specs.Verdicts.{whole_face, StopsAt, StopsWith}
-use Rattle.git_replies.specs.Lines.{crossed_text, full_text, monomial_text, stop_text, table_wide_text, wide_chamber_text, wide_face_text}
+use Rattle.git_replies.specs.Lines.{full_text, monomial_text, stop_text, table_wide_text, wide_chamber_text, wide_face_text}
 use Rattle.git_replies.specs.Counts.{counts_text}
 use Rattle.git_answers.specs.declared.output.Output.{Output}
 use Rattle.git_answers.specs.declared.output.Output.TheVariants.{Plain, Certified, Counted}
@@ -58,11 +58,10 @@ written Plain l = says Done (listing_text l)
 written Certified l = record { status = Done; text = listing_text l; tail = certificates }
 written Counted l = says Done (counts_text l)
 
--- what is answered of a signature that isn't good
+-- what is answered of a wide signature
 abbrev pub Refuses : Signature → Cell → Case
 Refuses sig (cell.Good c) o = ⊥
 Refuses sig (cell.Wide at) o = o ≡ says Wide (wide_chamber_text sig at)
-Refuses sig (cell.Crossed weight cone) o = o ≡ says Crossed (crossed_text sig weight cone)
 
 -- the signature is refused so
 abbrev pub IsRefused : Fan → Signature → Case
@@ -102,7 +101,7 @@ table_wide v n o = (fan : Fan) × IsFanOf v fan × (2 ^ 24 < (n.table + 64) * wi
 abbrev pub table_full : InputValue → Options → Case
 table_full v n o = (fan : Fan) × (first : Signature) × IsOpening v fan first × ReachExceeds (IsNext fan) first n.table × (o ≡ says Full (full_text n.table))
 
--- a reached signature isn't good: the first in order is named
+-- a reached signature is wide: the first in order is named
 abbrev pub not_good : InputValue → Case
 not_good v o = (fan : Fan) × (first : Signature) × IsOpening v fan first × ((sig : Signature) × IsFirst UpTo (IsBad fan first) sig × IsRefused fan sig o)
 

@@ -1,4 +1,4 @@
--- The first reached signature that isn't good, or the listing.
+-- The first reached signature that is wide, or the listing.
 use Rattle.std.proofs.Common.{◌≡◌, ◌≢◌, ◌∙◌, ◌≤◌, ◌<◌, ◌+◌, ◌*◌, ℕ, List, ◌++◌, [], length, Result, Ok, Err, inl, inr, refl, sym, ap, subst, arith}
 use Rattle.std.specs.Prelude.{IfOk, OnOk}
 use Rattle.std.specs.declared.cmp.Ordering.{Ordering}
@@ -19,7 +19,6 @@ use Rattle.git_orbit.specs.Orbits.{Fan}
 use Rattle.git_chamber.specs.Views.{Graph}
 use Rattle.git_chamber.specs.Chambers.{IsCell, IsNext}
 use Rattle.git_chamber.specs.Listings.{IsListing}
-use Rattle.git_chamber.specs.Nexts.{good_not_crossed}
 use Rattle.git_chamber.specs.declared.cell.Cell.{Cell}
 use Rattle.git_chamber.specs.declared.cell.Cell.TheVariants as cell
 use Rattle.git_listing.specs.Listings.{Listing}
@@ -28,7 +27,7 @@ use Rattle.git_replies.specs.Cases.{Case, Passes, IsFirst, Outcome, says, ◌oth
 use Rattle.git_answers.specs.Ends.{spelled}
 use Rattle.git_answers.specs.Verdicts.{IsTail}
 use Rattle.git_answers.specs.Fan.{Options, IsOpening, IsBad, IsRefused, Refuses, UpTo, written, not_good, lists, after_reach}
-use Rattle.git_replies.specs.Lines.{wide_chamber_text, crossed_text}
+use Rattle.git_replies.specs.Lines.{wide_chamber_text}
 use Rattle.git_answers.specs.declared.output.Output.{Output}
 use Rattle.git_answers.specs.declared.output.Output.TheVariants.{Plain, Certified, Counted}
 use Rattle.git_assemble.specs.declared.fault.AssembleFault.{AssembleFault}
@@ -43,7 +42,6 @@ use Rattle.git_fan.proofs.OneFan.{opening_along, opens}
 pub good_not_refused : (fan : Fan) (sig : Signature) (o : Outcome) → IsGoodSignature fan sig → IsRefused fan sig o → ⊥
 good_not_refused fan sig o good (cell.Good c, is, refuses) = refuses
 good_not_refused fan sig o good (cell.Wide at, is, refuses) = good.1.0 at is
-good_not_refused fan sig o good (cell.Crossed weight number, is, refuses) = good_not_crossed fan sig good.0 weight number good.1.1 is.1
 
 turned : (o : Ordering) (p : Ordering) → o ≡ ordering_reverse p → o ≡ Greater → p ≡ Less
 turned o Less e g = refl
@@ -113,7 +111,6 @@ few_product table width t w = let p : (table + 64) * width ≤ 65600 * 1024 = mu
 -- the signature of a fault is reached, and narrow
 pub narrow_fault : (fan : Fan) (first : Signature) (f : AssembleFault) → IsLegal fan first → width_of fan ≤ 1024 → IsAssembleFault fan first f → IsNarrow f
 narrow_fault fan first (bad.Wide sig at) legal few h = few_reached fan first sig legal h.reached few
-narrow_fault fan first (bad.Crossed sig weight cone) legal few h = few_reached fan first sig legal h.reached few
 narrow_fault fan first bad.NoMemory legal few h = tt
 
 -- the fault's line is that of the first signature that isn't good
@@ -121,6 +118,4 @@ pub not_good_replied : (v : InputValue) (n : Options) (g : Graph) (first : Signa
     → spelled v (after_reach n v) s text
 not_good_replied v n g first (bad.Wide sig at) s text of is h reply =
     plain v (after_reach n v) statuses.Wide s text (wide_chamber_text sig at) (inl (first_bad v g first sig (cell.Wide at) (says statuses.Wide (wide_chamber_text sig at)) of is h refl)) reply.0 reply.1
-not_good_replied v n g first (bad.Crossed sig weight cone) s text of is h reply =
-    plain v (after_reach n v) statuses.Crossed s text (crossed_text sig weight cone) (inl (first_bad v g first sig (cell.Crossed weight cone) (says statuses.Crossed (crossed_text sig weight cone)) of is h refl)) reply.0 reply.1
 not_good_replied v n g first bad.NoMemory s text of is h reply = absurd reply

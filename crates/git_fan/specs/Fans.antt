@@ -19,7 +19,7 @@ use Rattle.git_answers.specs.Ends.{spelled}
 use Rattle.git_assemble.specs.declared.fault.AssembleFault.{AssembleFault}
 use Rattle.git_assemble.specs.declared.fault.AssembleFault.TheVariants as bad
 use Rattle.git_answers.specs.Fan.{Options, IsFanOf, table_full, after_reach}
-use Rattle.git_replies.specs.Lines.{wide_face_text, wide_chamber_text, crossed_text}
+use Rattle.git_replies.specs.Lines.{wide_face_text, wide_chamber_text}
 use Rattle.git_answers.specs.Verdicts.{AreVerdicts, IsVerdict, whole_face, start_at}
 use Rattle.git_fan.specs.declared.opening.Opened.{Opened}
 use Rattle.git_fan.specs.declared.opening.Opened.TheVariants.{Decided, Open}
@@ -66,13 +66,11 @@ IsOpened v n C (Open graph faces) = IsOpenFan v n C graph faces.items
 -- the signature is one of at most 1024 words
 abbrev pub IsNarrow : AssembleFault → Type 0
 IsNarrow (bad.Wide sig at) = length sig ≤ 1024
-IsNarrow (bad.Crossed sig weight cone) = length sig ≤ 1024
 IsNarrow bad.NoMemory = Unit {0}
 
--- the line of a signature that isn't good
+-- the line of a wide signature
 abbrev pub IsNotGoodReply : AssembleFault → Status → List ℕ → Type 0
 IsNotGoodReply (bad.Wide sig at) s text = (s ≡ statuses.Wide) × (text ≡ wide_chamber_text sig at)
-IsNotGoodReply (bad.Crossed sig weight cone) s text = (s ≡ statuses.Crossed) × (text ≡ crossed_text sig weight cone)
 IsNotGoodReply bad.NoMemory s text = ⊥
 
 -- the line of a wide cone

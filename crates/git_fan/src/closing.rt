@@ -10,6 +10,7 @@ ghost use Rattle.git_plain.specs.Closing.{InOrder, signatures_of};
 ghost use Rattle.git_orbit.specs.Signatures.{IsLegal, width_of};
 ghost use Rattle.git_chamber.specs.Chambers.{IsCell, IsNext};
 ghost use Rattle.git_assemble.specs.Assembling.{IsClosure, IsFirstSignature};
+ghost use Rattle.git_listing.specs.Listings.{FitsVersion};
 ghost use Rattle.git_listing.specs.ListingText.{listing_text};
 ghost use Rattle.git_listing.specs.Views.{listing_of};
 ghost use Rattle.git_replies.specs.Cases.{◌otherwise◌, certificates};
@@ -32,7 +33,7 @@ use git_input::Input;
 use git_listing::{Listing, print};
 use git_machine::{CloseFault, Closed, Sig};
 use git_plain::close_over;
-use git_replies::{Reply, counts_line, crossed_line, full_line, wide_chamber_line};
+use git_replies::{Reply, counts_line, full_line, wide_chamber_line};
 use std::alloc::Global;
 use std::marker::Sync;
 use std::sync::Wait;
@@ -44,6 +45,7 @@ fn certified_listing(
     listing: &Listing,
     faces: &[FaceVerdict],
 ) -> Result<Vec<u8>, NoMemory>
+    requires { FitsVersion (listing_of listing.now) }
     ensures { (v : InputValue) → AreVerdicts v faces.now
         → IfOk result (λ text. (after : List ℕ) × IsTail v certificates after × (text.items ≡ listing_text (listing_of listing.now) ++ after)) }
 {
@@ -60,6 +62,7 @@ fn listed_text(
     faces: &[FaceVerdict],
     output: Output,
 ) -> Result<Vec<u8>, NoMemory>
+    requires { FitsVersion (listing_of listing.now) }
     ensures { (v : InputValue) → AreVerdicts v faces.now
         → IfOk result (λ text. (after : List ℕ) × IsTail v (written output (listing_of listing.now)).tail after × (text.items ≡ (written output (listing_of listing.now)).text ++ after)) }
 {
@@ -77,6 +80,7 @@ fn listed(
     faces: &[FaceVerdict],
     output: Output,
 ) -> Result<Reply, NoMemory>
+    requires { FitsVersion (listing_of listing.now) }
     ensures status { IfOk result (λ a. a.status ≡ Status.Done) }
     ensures text { (v : InputValue) → AreVerdicts v faces.now
         → IfOk result (λ a. (after : List ℕ) × IsTail v (written output (listing_of listing.now)).tail after × (a.text.items ≡ (written output (listing_of listing.now)).text ++ after)) }
@@ -88,19 +92,18 @@ fn listed(
     })
 }
 
-/// The line of the first signature that isn't good.
+/// The line of the first signature that is wide.
 fn not_good_line(alloc: Global, fault: AssembleFault) -> Result<Reply, NoMemory>
     requires { IsNarrow fault }
     ensures { IfOk result (λ a. IsNotGoodReply fault a.status a.text.items) }
 {
     match fault {
         AssembleFault::Wide { sig, at } => wide_chamber_line(alloc, &sig, &at),
-        AssembleFault::Crossed { sig, weight, cone } => crossed_line(alloc, &sig, &weight, cone),
         AssembleFault::NoMemory => Err(NoMemory),
     }
 }
 
-/// Where the reach is closed: a reached signature isn't good, or the chambers are listed.
+/// Where the reach is closed: a reached signature is wide, or the chambers are listed.
 fn after_reach(
     alloc: Global,
     graph: &FanGraph,
@@ -131,7 +134,7 @@ fn full_or_memory(alloc: Global, table: u32, fault: CloseFault) -> Result<Reply,
     }
 }
 
-/// Where the graph is closed: more signatures are reached than the table holds, or a reached one isn't good,
+/// Where the graph is closed: more signatures are reached than the table holds, or a reached one is wide,
 /// or the chambers are listed.
 fn after_close(
     alloc: Global,

@@ -8,11 +8,11 @@ use Rattle.git_listing.specs.Listings.{Side, boundary, inner, Chamber, Listing}
 -- the sides that are inner walls, and those on the boundary
 abbrev pub is_inner : Side → Bool
 is_inner boundary = false
-is_inner (inner n) = true
+is_inner (inner number matched) = true
 
 abbrev pub is_boundary : Side → Bool
 is_boundary boundary = true
-is_boundary (inner n) = false
+is_boundary (inner number matched) = false
 
 -- how many facets of all chambers have such a side
 abbrev pub facets_with : (Side → Bool) → List Chamber → ℕ

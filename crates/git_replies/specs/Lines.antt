@@ -40,16 +40,6 @@ number_words sig = map decimal (numbers_of sig)
 abbrev pub wide_chamber_text : Signature → WideAt → List ℕ
 wide_chamber_text sig at = line_text (codes "refused" ∷ codes "wide" ∷ codes "chamber" ∷ number_words sig ++ at_words at)
 
-abbrev pub weight_words : Vector → List (List ℕ)
-weight_words weight = codes "weight" ∷ vector_words weight
-
-abbrev pub cone_words : ℕ → List (List ℕ)
-cone_words cone = codes "cone" ∷ decimal cone ∷ []
-
--- the cones of the signature, its chamber's weight, and the least number in which the weight's signature differs
-abbrev pub crossed_text : Signature → Vector → ℕ → List ℕ
-crossed_text sig weight cone = line_text (codes "refused" ∷ codes "crossed" ∷ codes "cones" ∷ number_words sig ++ (weight_words weight ++ cone_words cone))
-
 abbrev pub table_wide_text : ℕ → ℕ → List ℕ
 table_wide_text table width = line_text (codes "refused" ∷ codes "tablewide" ∷ decimal table ∷ decimal width ∷ [])
 

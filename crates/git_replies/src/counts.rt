@@ -14,7 +14,7 @@ fn is_wall(side: ListedSide) -> bool
     ensures { result ≡ is_inner (side_of side) }
 {
     match side {
-        ListedSide::Inner(_) => true,
+        ListedSide::Inner { .. } => true,
         ListedSide::Boundary => false,
     }
 }
@@ -24,7 +24,7 @@ fn is_outer(side: ListedSide) -> bool
     ensures { result ≡ is_boundary (side_of side) }
 {
     match side {
-        ListedSide::Inner(_) => false,
+        ListedSide::Inner { .. } => false,
         ListedSide::Boundary => true,
     }
 }

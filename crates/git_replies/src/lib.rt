@@ -10,8 +10,7 @@ mod reply;
 
 pub use counts::counts_line;
 pub use lines::{
-    crossed_line, degree_line, full_line, steps_line, table_wide_line, wide_chamber_line,
-    wide_face_line,
+    degree_line, full_line, steps_line, table_wide_line, wide_chamber_line, wide_face_line,
 };
 pub use reading::{Reading, read};
 pub use reply::{Reply, Unanswered};

@@ -4,11 +4,10 @@ ghost use Rattle.std.specs.Fmt.{signed_decimal};
 ghost use Rattle.std.specs.String.{string_bytes};
 ghost use Rattle.git_base.specs.declared.status.Status.{Status};
 ghost use Rattle.git_lines.specs.Printing.{after_spaces};
-ghost use Rattle.git_replies.specs.Lines.{stop_text, at_words, number_words, weight_words, cone_words, wide_face_text, wide_chamber_text, crossed_text, table_wide_text, full_text};
+ghost use Rattle.git_replies.specs.Lines.{stop_text, at_words, number_words, wide_face_text, wide_chamber_text, table_wide_text, full_text};
 
 use crate::reply::Reply;
 use git_base::{NoMemory, Status};
-use git_ints::IVec;
 use git_machine::Sig;
 use git_stages::{WideAt, WideWhat};
 use std::alloc::{AllocError, Global};
@@ -132,39 +131,6 @@ pub fn wide_chamber_line(alloc: Global, sig: &Sig, at: &WideAt) -> Result<Reply,
     text.push_str("\n")?;
     Ok(Reply {
         status: Status::Wide,
-        text: text.into_bytes(),
-    })
-}
-
-/// A weight.
-fn push_weight(out: &mut String, weight: &IVec) -> Result<(), AllocError>
-    ensures { OnOk result (string_bytes out.new ≡ string_bytes out.old ++ after_spaces (weight_words weight.now)) }
-{
-    out.push_str(" weight")?;
-    push_entries(out, weight.as_slice())
-}
-
-/// The number of a cone, and the end of the line.
-fn push_cone(out: &mut String, cone: u32) -> Result<(), AllocError>
-    ensures { OnOk result (string_bytes out.new ≡ string_bytes out.old ++ (after_spaces (cone_words cone) ++ 10 ∷ [])) }
-{
-    write!(out, " cone {cone}\n")?;
-    Ok(())
-}
-
-/// The line of a crossed signature.
-pub fn crossed_line(alloc: Global, sig: &Sig, weight: &IVec, cone: u32) -> Result<Reply, NoMemory>
-    requires { length sig.now ≤ 1024 }
-    ensures status { IfOk result (λ a. a.status ≡ Status.Crossed) }
-    ensures text { IfOk result (λ a. a.text.items ≡ crossed_text sig.now weight.now cone) }
-{
-    let mut text = String::new(alloc);
-    text.push_str("refused crossed cones")?;
-    push_numbers(&mut text, sig)?;
-    push_weight(&mut text, weight)?;
-    push_cone(&mut text, cone)?;
-    Ok(Reply {
-        status: Status::Crossed,
         text: text.into_bytes(),
     })
 }

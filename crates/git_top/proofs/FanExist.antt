@@ -47,6 +47,7 @@ use Rattle.git_chamber.specs.Views.{IsGraph, AreConesOf}
 use Rattle.git_chamber.specs.Nexts.{one_next}
 use Rattle.git_chamber.specs.declared.cell.Cell.{Cell}
 use Rattle.git_chamber.specs.declared.cell.Cell.TheVariants as cell
+use Rattle.git_chamber.proofs.Fulls.{legal_is_full}
 use Rattle.git_chamber.proofs.Graphs.{reached_legal}
 use Rattle.git_chamber.proofs.Existence.{cell_exists, next_exists}
 use Rattle.git_chamber.proofs.Firsts.{first_legal}
@@ -59,7 +60,7 @@ use Rattle.git_faces.proofs.FullLists.{some as full_list}
 use Rattle.git_faces.proofs.FirstStops.{some as first_or_all}
 use Rattle.git_replies.specs.Cases.{Passes, HasSome, Settles, IsFirst, Outcome, says, block, ◌otherwise◌}
 use Rattle.git_answers.specs.Verdicts.{IsFullFace, StopsWith, StopsAt, start_at, whole_face}
-use Rattle.git_replies.specs.Lines.{stop_text, monomial_text, wide_face_text, wide_chamber_text, crossed_text, table_wide_text, full_text}
+use Rattle.git_replies.specs.Lines.{stop_text, monomial_text, wide_face_text, wide_chamber_text, table_wide_text, full_text}
 use Rattle.git_answers.specs.Fan.{Options, written, IsFanOf, IsOpening, IsWideFace, IsBad, IsRefused, Refuses, UpTo, whole_stops, has_monomial, other_stops, wide_cone, table_wide, table_full, not_good, lists, after_reach, after_cones, after_verdicts, after_whole, fan_of}
 use Rattle.git_replies.proofs.CaseLaws.{some_of}
 use Rattle.git_top.proofs.FacesExist.{stop_of}
@@ -248,7 +249,7 @@ module _ (v : InputValue) (n : Options) (g : IsGrading v.degrees.k v.degrees.col
       legal = first_legal (record { fan = fan; columns = v.degrees.columns }) is_graph first.0 first.1
 
       listed : ReachExceeds (IsNext fan) first.0 n.table ⊎ ((xs : List Signature) × IsListed (IsNext fan) first.0 n.table xs)
-      listed = listed_or_exceeds (IsNext fan) first.0 n.table (λ s r. next_exists fan s is_fan (reached_legal fan first.0 s legal r)) (λ s x y r p q. one_next fan s x y p q)
+      listed = listed_or_exceeds (IsNext fan) first.0 n.table (λ s r. next_exists fan s is_fan (legal_is_full fan s is_fan (reached_legal fan first.0 s legal r))) (λ s x y r p q. one_next fan s x y p q)
 
       module _ (xs : List Signature) (l : IsListed (IsNext fan) first.0 n.table xs) where
         fits : Passes (table_full v n)
@@ -260,10 +261,9 @@ module _ (v : InputValue) (n : Options) (g : IsGrading v.degrees.k v.degrees.col
         by_cell : (s : Signature) (c : Cell) → IsCell fan s c → IsGoodSignature fan s ⊎ ((o : Outcome) × IsRefused fan s o)
         by_cell s (cell.Good c) is = inl (c, is)
         by_cell s (cell.Wide at) is = inr (says status.Wide (wide_chamber_text s at), (cell.Wide at, is, refl))
-        by_cell s (cell.Crossed w number) is = inr (says status.Crossed (crossed_text s w number), (cell.Crossed w number, is, refl))
 
         good_or_refused : (s : Signature) → Reached (IsNext fan) first.0 s → IsGoodSignature fan s ⊎ ((o : Outcome) × IsRefused fan s o)
-        good_or_refused s r = let c = cell_exists fan s is_fan (reached_legal fan first.0 s legal r) in by_cell s c.0 c.1
+        good_or_refused s r = let c = cell_exists fan s is_fan (legal_is_full fan s is_fan (reached_legal fan first.0 s legal r)) in by_cell s c.0 c.1
 
         record FirstRefused (ys : List Signature) : Type 0 where
           sig : Signature
@@ -324,7 +324,7 @@ module _ (v : InputValue) (n : Options) (g : IsGrading v.degrees.k v.degrees.col
           | inr f ↦ (f.outcome, inl (bad_named f))
           | inl good ↦ (
               let all : AllGood fan first.0 = λ s r. good s (contains_member s xs (l.reach.complete s r)) in
-              let listing = a_listing fan first.0 (length v.degrees.columns) xs legal l.reach all in (
+              let listing = a_listing fan first.0 (length v.degrees.columns) xs is_fan legal l.reach all in (
                 written n.output listing.0,
                 inr (
                   (λ o h. (let there = opening_along v fan h.0 first.0 h.1 (λ f s. AllGood f s) opening h.2 all in good_not_refused h.0 h.3.0 o (there h.3.0 h.3.1.holds.0) h.3.2)),

@@ -76,7 +76,6 @@ up_same a b p q = (equal_words a b).0 (level_words a b (ap is_eq (level a b (sig
 refuses_one : (sig : Signature) (c : Cell) → HasOne (Refuses sig c)
 refuses_one sig (cell.Good c) x y p q = absurd p
 refuses_one sig (cell.Wide at) x y p q = p ∙ sym q
-refuses_one sig (cell.Crossed weight number) x y p q = p ∙ sym q
 
 refused_one : (fan : Fan) (sig : Signature) → HasOne (IsRefused fan sig)
 refused_one fan sig = one_by (IsCell fan sig) (Refuses sig) (one_cell fan sig) (refuses_one sig)

@@ -1,3 +1,4 @@
+use Rattle.std.proofs.Common.{inr}
 use Rattle.std.proofs.lemmas.Result.{IfOk-weaker}
 use Rattle.git_listing.specs.Views.{listing_of}
 use Rattle.git_answers.specs.Fan.{options}
@@ -6,6 +7,9 @@ use Rattle.git_fan.proofs.closing.after_reach.Goals as goal
 
 pub not_good_line-requires : goal.not_good_line-requires
 not_good_line-requires c = narrow_fault c.args.graph.now.fan c.requires.closed.0 c.in-Err.fault c.requires.closed.2.legal c.requires.small (c.in-Err.ensures.fault c.requires.closed.0 c.requires.closed.1)
+
+pub listed-requires : goal.listed-requires
+listed-requires c = inr (c.in-Ok.ensures.listing c.requires.closed.0 c.requires.closed.1).version
 
 pub returns-in-Ok : goal.returns-in-Ok
 returns-in-Ok c v t s of verdicts =
