@@ -8,7 +8,6 @@ ghost use Rattle.git_replies.specs.Lines.{stop_text, at_words, number_words, wid
 
 use crate::reply::Reply;
 use git_base::{NoMemory, Status};
-use git_ints::IVec;
 use git_machine::Sig;
 use git_stages::{WideAt, WideWhat};
 use std::alloc::{AllocError, Global};
