@@ -1,5 +1,7 @@
 -- How often numbers stand in lists.
-use Rattle.std.proofs.Common.{◌≡◌, ℕ, ◌+◌, ◌<◌, List, [], ◌∷◌, ◌++◌, length, refl, ap, arith}
+use Rattle.std.proofs.Common.{◌≡◌, ℕ, ◌+◌, ◌<◌, List, [], ◌∷◌, ◌++◌, length, length-append, refl, ap, subst, arith, Some, Option, IfSome, option_to_list}
+use Rattle.std.specs.List.{All}
+use Rattle.std.proofs.lemmas.List.Elements.{All-pop}
 use native.Mathlib.Decide.{ℕ_discrete}
 use Rattle.git_visits.specs.Lists.{one, times}
 use Rattle.git_visits.proofs.Cuts.{one_same, one_other}
@@ -28,3 +30,10 @@ same_length (x ∷ xs) ys h =
     let b = one_same x x refl in
     let r = taken_out x ys (omega arith) in
     let t = same_length xs r.0 (λ q. let c = h q in let d = r.2 q in omega arith) in let l = r.1 in omega arith
+
+-- what is left where the last was taken off
+pub popped : {M : Type 0} (P : M → Type 0) (xs ys : List M) (r : Option M) (m : M) → xs ≡ ys ++ option_to_list r → r ≡ Some m → All P xs → All P ys × P m × (length ys + 1 ≡ length xs)
+popped {M} P xs ys r m e is h =
+    let t = All-pop P xs ys r e h in
+    let one = ap (λ (o : Option M). length (option_to_list o)) is in
+    let both = ap (λ (l : List M). length l) e in (t.0, subst (λ (o : Option M). IfSome o P) is t.1, omega (arith, length-append ys (option_to_list r)))

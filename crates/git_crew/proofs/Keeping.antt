@@ -1,5 +1,5 @@
 -- What a member found, from call to call.
-use Rattle.std.proofs.Common.{◌≡◌, ℕ, suc, ◌+◌, ◌<◌, List, [], ◌∷◌, ◌++◌, length, length-append, get_or, refl, sym, ap, ◌∙◌, subst, arith, None}
+use Rattle.std.proofs.Common.{◌≡◌, ℕ, suc, ◌+◌, ◌<◌, List, [], ◌∷◌, ◌++◌, length, length-append, get_or, refl, sym, ap, ◌∙◌, subst, arith, Some, None}
 use Rattle.std.specs.List.{Contains}
 use Rattle.std.proofs.lemmas.List.Elements.{All-nil, All-push, All-append, Contains-append_left, Contains-append_right, Contains-push}
 use mathlib.Core.List.{map-append}
@@ -19,7 +19,7 @@ use Rattle.git_table.specs.Calls.{IsOf, Sees, OfferTells, joined_seat}
 use Rattle.git_plain.specs.Closing.{signatures_of}
 use Rattle.git_crew.specs.Members.{Keeps, IsSound, IsKept, IsReady, EndSays}
 use Rattle.git_crew.specs.declared.member.End.{End}
-use Rattle.git_crew.specs.declared.member.End.TheVariants.{Quiet}
+use Rattle.git_crew.specs.declared.member.End.TheVariants.{Working, Quiet}
 use Rattle.git_crew.proofs.Counting.{times_append}
 
 at_behind : {A : Type 0} (l m : List A) (k : ℕ) (a : A) → get_elem? m k ≡ some a → (j : ℕ) × (get_elem? (l ++ m) j ≡ some a)
@@ -74,6 +74,10 @@ module _ {G P : Type 0} (next : G → Signature → List Signature → Type 0) (
     whole = λ id h. let t = ap (times id) e in absurd (omega arith);
     sound = All-nil (IsSound next payload f);
   }
+
+  -- a member at the start
+  pub at_start : (s : SeatView G) (found : List (Found P)) → found ≡ [] → s.places ≡ 1 → s.hand ≡ None → s.finished ≡ [] → IsReady next payload f 1 s found
+  at_start s found none places free bare = record { places = places; free = free; kept = subst (IsKept next payload f s) (sym none) (none_kept s bare) }
 
   pub kept_goes : (s t : SeatView G) (found : List (Found P)) → Keeps s t → IsKept next payload f s found → IsKept next payload f t found
   kept_goes s t found g k = record {
@@ -142,4 +146,20 @@ module _ {G P : Type 0} (next : G → Signature → List Signature → Type 0) (
           record { places = (let p = x.0.places in let q = y.0.places in omega arith); free = x.0.free; kept = kept_joined s t fs gs x.0.kept y.0.kept },
           (let p = x.1 in let q = y.1 in omega arith),
         ),
+      )
+
+  -- a member at work, after a look that gave nothing
+  pub works_on : (s t : SeatView G) (looks : List (ℕ × ℕ)) (found : List (Found P)) (e : End) → t ≡ record s { looks = looks } → IsOf f s → EndSays next payload f 1 s found e → e ≡ Working → IsOf f t × EndSays next payload f 1 t found e
+  works_on s t looks found e is of says working = (
+    ap (λ (u : SeatView G). u.frontier) is ∙ of,
+    subst (EndSays next payload f 1 t found) (sym working) (ready_looked 1 s t looks found is (subst (EndSays next payload f 1 s found) working says)),
+  )
+
+  -- after an id was taken
+  pub kept_taken : (s t : SeatView G) (id : ℕ) (looks : List (ℕ × ℕ)) (found : List (Found P)) (e : End) → t ≡ record s { hand = Some id; looks = looks } → EndSays next payload f 1 s found e → e ≡ Working → IsKept next payload f t found × (t.places ≡ 1)
+  kept_taken s t id looks found e is says working =
+      let r = subst (EndSays next payload f 1 s found) working says in
+      let k = r.kept in (
+        subst (λ (u : SeatView G). IsKept next payload f u found) (sym is) record { long = k.long; whole = k.whole; sound = k.sound },
+        ap (λ (u : SeatView G). u.places) is ∙ r.places,
       )

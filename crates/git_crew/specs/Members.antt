@@ -1,12 +1,12 @@
 -- What holds of the members of a crew.
-use Rattle.std.specs.Prelude.{◌≡◌, ℕ, ◌<◌, List, length, None}
+use Rattle.std.specs.Prelude.{◌≡◌, ℕ, ◌<◌, List, length, Some, None}
 use Rattle.std.specs.List.{All, Contains}
 use Rattle.git_machine.specs.declared.successors.Found.{Found}
 use Rattle.git_machine.specs.Signatures.{Signature}
 use Rattle.git_machine.specs.Reach.{Reached}
 use Rattle.git_visits.specs.Lists.{times}
 use Rattle.git_table.specs.Views.{FrontierView, SeatView}
-use Rattle.git_table.specs.Calls.{IsOf, Sees}
+use Rattle.git_table.specs.Calls.{IsOf, Sees, room}
 use Rattle.git_plain.specs.Closing.{signatures_of}
 use Rattle.git_crew.specs.declared.member.End.{End}
 use Rattle.git_crew.specs.declared.member.End.TheVariants.{Working, Quiet, Full, Stopped}
@@ -45,6 +45,17 @@ module _ {G P : Type 0} (next : G → Signature → List Signature → Type 0) (
   EndSays f n s found Full = s.full ≡ 1
   EndSays f n s found Stopped = Unit {0}
 
+  -- the ids of its hints are those of the frontier
   pub record IsMember (f : FrontierView G) (n : ℕ) (m : Member G P) : Type 0 where
     pub of : IsOf f m.seat
+    pub fits : m.hints.room ≡ room f
     pub says : EndSays f n m.seat m.found.items m.end
+
+  -- a member of one place that has this id in hand
+  pub record HasTaken (f : FrontierView G) (id : ℕ) (m : Member G P) : Type 0 where
+    pub of : IsOf f m.seat
+    pub fits : m.hints.room ≡ room f
+    pub hand : m.seat.hand ≡ Some id
+    pub places : m.seat.places ≡ 1
+    pub kept : IsKept f m.seat m.found.items
+    pub working : m.end ≡ Working

@@ -14,6 +14,7 @@ use crate::join::join_all;
 use crate::member::{End, Member, work};
 use git_base::NoMemory;
 use git_machine::{CloseFault, Closed, Found, Sig, Successors};
+use git_share::Hints;
 use git_table::{Frontier, Seat};
 use std::alloc::Global;
 use std::sync::Wait;
@@ -24,29 +25,40 @@ fn members<G: Successors>(
     alloc: Global,
     frontier: &Frontier<G>,
     seat: Seat<G>,
+    cap: u32,
     workers: u32,
 ) -> Result<Vec<Member<G>>, NoMemory>
 where
     G::Payload: Drop,
     requires seat { seat ≡ first_seat frontier.now }
-    requires workers { (frontier.now.workers ≡ workers) × (0 < workers) }
+    requires cap { (frontier.now.cap ≡ cap) × (cap ≤ 65536) }
+    requires workers { (frontier.now.workers ≡ workers) × (0 < workers) × (workers ≤ 64) }
     ensures long { IfOk result (λ l. length l.items ≡ workers) }
     ensures members { IfOk result (λ l. All (IsMember G.next G.payload frontier.now 1) l.items) }
 {
     let mut seat = seat;
+    let mut hints = Hints::new(alloc, workers as usize, cap + workers)?;
     let mut all = Vec::new(alloc);
     for _k in 1..workers {
         let (rest, one) = frontier.split(seat);
         seat = rest;
+        let Some(own) = hints.pop() else {
+            unreachable!()
+        };
         all.push(Member {
             seat: one,
             found: Vec::new(alloc),
+            hints: own,
             end: End::Working,
         })?;
     }
+    let Some(own) = hints.pop() else {
+        unreachable!()
+    };
     all.push(Member {
         seat,
         found: Vec::new(alloc),
+        hints: own,
         end: End::Working,
     })?;
     Ok(all)
@@ -117,7 +129,6 @@ fn in_order<P>(mut found: Vec<Found<P>>) -> Vec<Found<P>>
 
 /// What a crew found that ended quietly, if it isn't more than the cap.
 fn listed<G: Successors>(
-    alloc: Global,
     frontier: Frontier<G>,
     seat: Seat<G>,
     found: Vec<Found<G::Payload>>,
@@ -133,8 +144,7 @@ where
     ensures few { IfOk result (λ l. length l.items ≤ cap) }
     ensures full { result ≡ Err CloseFault.Full → ReachExceeds (G.next frontier.graph) frontier.first cap }
 {
-    let listed = frontier.close(alloc, seat)?;
-    if listed.sigs.len() > cap as usize {
+    if frontier.count(seat) > cap as usize {
         return Err(CloseFault::Full);
     }
     Ok(found)
@@ -142,7 +152,6 @@ where
 
 /// What a crew found, by how it ended.
 fn ended<G: Successors>(
-    alloc: Global,
     frontier: Frontier<G>,
     all: Member<G>,
     cap: u32,
@@ -156,9 +165,14 @@ where
     ensures few { IfOk result (λ l. length l.items ≤ cap) }
     ensures full { result ≡ Err CloseFault.Full → ReachExceeds (G.next frontier.graph) frontier.first cap }
 {
-    let Member { seat, found, end } = all;
+    let Member {
+        seat,
+        found,
+        hints: _,
+        end,
+    } = all;
     match end {
-        End::Quiet => listed(alloc, frontier, seat, found, cap),
+        End::Quiet => listed(frontier, seat, found, cap),
         End::Full => {
             frontier.close_full(seat);
             Err(CloseFault::Full)
@@ -187,10 +201,10 @@ where
     ensures full { result ≡ Err CloseFault.Full → ReachExceeds (G.next graph.now) first.now cap }
 {
     let (frontier, seat) = Frontier::new(alloc, graph, cap, workers, first)?;
-    let members = members(alloc, &frontier, seat, workers)?;
+    let members = members(alloc, &frontier, seat, cap, workers)?;
     let members = worked(rt, alloc, &frontier, graph, gate, members, workers);
     let all = join_all(&frontier, members);
-    ended(alloc, frontier, all, cap)
+    ended(frontier, all, cap)
 }
 
 /// All signatures that are reached from `first`, each once, in order, each with a payload of the graph, found

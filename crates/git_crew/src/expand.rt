@@ -3,11 +3,12 @@ ghost use Rattle.std.specs.Prelude.{◌≡◌, ◌∷◌, ℕ, IsTrue, false, le
 ghost use Rattle.std.specs.List.{Contains};
 ghost use Rattle.git_machine.specs.Signatures.{Signature};
 ghost use Rattle.git_machine.specs.Reach.{Reached};
-ghost use Rattle.git_table.specs.Calls.{IsOf, Sees};
+ghost use Rattle.git_table.specs.Calls.{IsOf, Sees, room};
 ghost use Rattle.git_crew.specs.Members.{IsKept, Keeps, IsReady};
 
 use git_base::NoMemory;
 use git_machine::{CloseFault, Expansion, Found, Sig, Successors};
+use git_share::Hints;
 use git_table::{Frontier, Offer, Seat};
 use std::alloc::Global;
 
@@ -49,24 +50,31 @@ fn read_hand<G: Successors>(
     Ok(Sig::of_words(read_into(frontier, id, words, seat)))
 }
 
-/// Offers each of those to which the hand leads. Says whether the frontier had room.
+/// Offers each of those to which the hand leads, and hints the new ones. Says whether the frontier had room.
 fn offer_all<G: Successors>(
     frontier: &Frontier<G>,
     id: u32,
     sig: &Sig,
     next: &Vec<Sig>,
     seat: &mut Seat<G>,
+    hints: &mut Hints,
 ) -> bool
     requires of { IsOf frontier.now seat.old }
     requires hand { (seat.old.hand ≡ Some id) × Sees seat.old id sig.now }
     requires next { G.next frontier.now.graph sig.now next.now.items }
+    requires fits { hints.old.room ≡ room frontier.now }
     ensures keeps { Keeps seat.old seat.new }
+    ensures fits { hints.new.room ≡ room frontier.now }
     ensures offered { IsTrue result → (x : Signature) → Contains next.now.items x → (q : ℕ) × Sees seat.new q x }
     ensures full { result ≡ false → seat.new.full ≡ 1 }
 {
     for i in 0..next.len() {
         match frontier.offer(seat, &next[i]) {
-            Offer::New(_id) => continue,
+            // what isn't hinted is found by a scan
+            Offer::New(new) => {
+                hints.push(new);
+                continue;
+            }
             Offer::Seen(_id) => continue,
             Offer::Full => return false,
         }
@@ -74,13 +82,15 @@ fn offer_all<G: Successors>(
     true
 }
 
-/// Expands the id in hand, offers all to which it leads, keeps what was found, and finishes the id.
+/// Expands the id in hand, offers all to which it leads, hints what is new, keeps what was found, and
+/// finishes the id.
 pub(crate) fn expand<G: Successors>(
     alloc: Global,
     frontier: &Frontier<G>,
     graph: &G,
     id: u32,
     seat: &mut Seat<G>,
+    hints: &mut Hints,
     found: &mut Vec<Found<G::Payload>>,
 ) -> Result<(), CloseFault>
 where
@@ -89,13 +99,15 @@ where
     requires of { IsOf frontier.now seat.old }
     requires hand { seat.old.hand ≡ Some id }
     requires kept { IsKept G.next G.payload frontier.now seat.old found.old.items }
+    requires fits { hints.old.room ≡ room frontier.now }
     ensures of { IsOf frontier.now seat.new }
+    ensures fits { hints.new.room ≡ room frontier.now }
     ensures done { OnOk result (IsReady G.next G.payload frontier.now seat.old.places seat.new found.new.items) }
     ensures full { result ≡ Err CloseFault.Full → seat.new.full ≡ 1 }
 {
     let sig = read_hand(alloc, frontier, graph, id, seat)?;
     let Expansion { next, payload } = graph.expand(alloc, &sig)?;
-    if !offer_all(frontier, id, &sig, &next, seat) {
+    if !offer_all(frontier, id, &sig, &next, seat, hints) {
         return Err(CloseFault::Full);
     }
     if found.push(Found { sig, payload }).is_err() {

@@ -19,11 +19,13 @@ where
     let Member {
         seat,
         mut found,
+        hints,
         end: _,
     } = one;
     let Member {
         seat: second,
         found: mut more,
+        hints: _,
         end: _,
     } = other;
     let seat = frontier.join(seat, second);
@@ -31,12 +33,14 @@ where
         return Member {
             seat,
             found,
+            hints,
             end: End::Stopped,
         };
     }
     Member {
         seat,
         found,
+        hints,
         end: End::Quiet,
     }
 }
@@ -46,16 +50,19 @@ fn stopped<G: Successors>(member: Member<G>) -> Member<G>
 where
     G::Payload: Drop,
     ensures seat { result.seat ≡ member.seat }
+    ensures hints { result.hints ≡ member.hints }
     ensures end { result.end ≡ End.Stopped }
 {
     let Member {
         seat,
         found,
+        hints,
         end: _,
     } = member;
     Member {
         seat,
         found,
+        hints,
         end: End::Stopped,
     }
 }

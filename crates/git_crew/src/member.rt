@@ -1,12 +1,13 @@
 //! A member of the crew.
-ghost use Rattle.std.specs.Prelude.{◌≡◌, Some};
-ghost use Rattle.git_table.specs.Calls.{IsOf};
-ghost use Rattle.git_crew.specs.Members.{IsKept, IsMember};
+ghost use Rattle.std.specs.Prelude.{◌≡◌, Some, IfSome, IsNone};
+ghost use Rattle.git_table.specs.Calls.{IsOf, room};
+ghost use Rattle.git_crew.specs.Members.{IsKept, IsMember, HasTaken};
 
 use crate::expand::expand;
 use crate::gate::Gate;
 use git_machine::{CloseFault, Found, Successors};
-use git_table::{Frontier, Seat, Taken};
+use git_share::Hints;
+use git_table::{Frontier, Hinted, Seat, Taken};
 use std::alloc::Global;
 use std::sync::Wait;
 use std::thread::yield_now;
@@ -24,7 +25,7 @@ pub enum End {
     Stopped,
 }
 
-/// A worker's seat, what it found, and how far it came.
+/// A worker's seat, what it found, its hints, and how far it came.
 #[derive(Drop)]
 pub struct Member<G: Successors>
 where
@@ -32,6 +33,7 @@ where
 {
     pub seat: Seat<G>,
     pub found: Vec<Found<G::Payload>>,
+    pub hints: Hints,
     pub end: End,
 }
 
@@ -46,10 +48,7 @@ fn work_on<G: Successors>(
 where
     G::Payload: Drop,
     requires graph { frontier.now.graph ≡ graph.now }
-    requires of { IsOf frontier.now member.old.seat }
-    requires hand { (member.old.seat.hand ≡ Some id) × (member.old.seat.places ≡ 1) }
-    requires kept { IsKept G.next G.payload frontier.now member.old.seat member.old.found.items }
-    requires working { member.old.end ≡ End.Working }
+    requires taken { HasTaken G.next G.payload frontier.now id member.old }
     ensures { IsMember G.next G.payload frontier.now 1 member.new }
 {
     member.end = match expand(
@@ -58,6 +57,7 @@ where
         graph,
         id,
         &mut member.seat,
+        &mut member.hints,
         &mut member.found,
     ) {
         Ok(()) => return,
@@ -67,8 +67,34 @@ where
     frontier.halt(&mut member.seat);
 }
 
-/// Takes an id and expands it. Where none was found queued, but one is in hand, it gives its processor away.
-fn step<G: Successors, T: Gate>(
+/// Takes the first id that is hinted and queued. None where there is no hint, or where all are to stop.
+fn hinted<G: Successors>(frontier: &Frontier<G>, member: &mut Member<G>) -> Option<u32>
+where
+    G::Payload: Drop,
+    requires member { IsMember G.next G.payload frontier.now 1 member.old }
+    requires working { member.old.end ≡ End.Working }
+    ensures taken { IfSome result (λ id. HasTaken G.next G.payload frontier.now id member.new) }
+    ensures none { IsNone result → IsMember G.next G.payload frontier.now 1 member.new × (member.new.end ≡ End.Working) }
+{
+    if frontier.stopped(&mut member.seat) {
+        return None;
+    }
+    // no crew makes more hints than ids
+    for _look in 0..65600 {
+        let Some(id) = member.hints.next() else {
+            return None;
+        };
+        match frontier.take_hint(&mut member.seat, id) {
+            Hinted::Work(id) => return Some(id),
+            Hinted::Gone => {}
+        }
+    }
+    None
+}
+
+/// Takes an id that is found queued and expands it. Where none was found, but one is in hand, it gives its
+/// processor away.
+fn scan<G: Successors, T: Gate>(
     alloc: Global,
     frontier: &Frontier<G>,
     graph: &G,
@@ -91,6 +117,31 @@ where
             gate.enter(number, u64::from(id));
             work_on(alloc, frontier, graph, id, member);
         }
+    }
+}
+
+/// Takes an id and expands it: one that is hinted, or else one that is found queued.
+fn step<G: Successors, T: Gate>(
+    alloc: Global,
+    frontier: &Frontier<G>,
+    graph: &G,
+    gate: &T,
+    number: u64,
+    member: &mut Member<G>,
+)
+where
+    G::Payload: Drop,
+    requires graph { frontier.now.graph ≡ graph.now }
+    requires member { IsMember G.next G.payload frontier.now 1 member.old }
+    requires working { member.old.end ≡ End.Working }
+    ensures { IsMember G.next G.payload frontier.now 1 member.new }
+{
+    match hinted(frontier, member) {
+        Some(id) => {
+            gate.enter(number, u64::from(id));
+            work_on(alloc, frontier, graph, id, member);
+        }
+        None => scan(alloc, frontier, graph, gate, number, member),
     }
 }
 

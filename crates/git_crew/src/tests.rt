@@ -8,6 +8,7 @@ use git_plain::close_over;
 use std::alloc::Global;
 use std::sync::atomic::{AtomicU64, Ordering};
 use std::test::Fail;
+use std::thread::yield_now;
 
 /// A number n below `inner` leads to `factor n + 1` and `factor n + factor`, and any other to 0. It has no
 /// memory for the expansion of this number, counted from 1.
@@ -110,8 +111,8 @@ fn crews_give_the_list_of_one_thread(rt: HostRuntime) -> Result<(), Fail> {
         return Ok(());
     };
     assert_eq!(rt; plain.found.len(), 63);
-    for workers in [1, 2, 4, 8] {
-        for round in 0..200 {
+    for workers in [1, 2, 3, 4, 8, 16] {
+        for round in 0..167 {
             let gate = Count {
                 entered: AtomicU64::new(0),
             };
@@ -125,6 +126,85 @@ fn crews_give_the_list_of_one_thread(rt: HostRuntime) -> Result<(), Fail> {
                 "{workers} {round}"
             );
         }
+    }
+    Ok(())
+}
+
+/// Counts what enters, and what enters at another place than that of its number.
+#[derive(Drop)]
+struct Line {
+    entered: AtomicU64,
+    misplaced: AtomicU64,
+}
+
+impl Gate for Line {
+    fn enter(&self, _worker: u64, id: u64) {
+        let place = self.entered.fetch_add(1, Ordering::SeqCst);
+        if place != id {
+            self.misplaced.fetch_add(1, Ordering::SeqCst);
+        }
+    }
+}
+
+/// A worker that is alone takes ids as it found them. A scan for queued ids begins with the highest.
+#[test]
+fn hints_are_followed_in_order(rt: HostRuntime) -> Result<(), Fail> {
+    let root = Sig::of(rt.alloc(), &[0])?;
+    for (factor, inner, reached) in [(2, 31, 63), (1, 9, 10)] {
+        let graph = unrefused(factor, inner);
+        let gate = Line {
+            entered: AtomicU64::new(0),
+            misplaced: AtomicU64::new(0),
+        };
+        match close_over_with(&rt, rt.alloc(), &graph, &root, 63, 1, &gate) {
+            Ok(closed) => assert_eq!(rt; closed.found.len(), reached),
+            Err(_fault) => assert!(rt; false, "{reached} are refused"),
+        }
+        assert_eq!(rt; gate.entered.load(Ordering::SeqCst), reached as u64);
+        assert_eq!(rt; gate.misplaced.load(Ordering::SeqCst), 0);
+    }
+    Ok(())
+}
+
+/// A gate at which each worker that enters an id from 15 on waits for the others, so many in all.
+#[derive(Drop)]
+struct Meeting {
+    workers: u32,
+    /// A bit for each worker that entered such an id.
+    entered: AtomicU64,
+}
+
+impl Gate for Meeting {
+    fn enter(&self, worker: u64, id: u64) {
+        if id < 15 {
+            return;
+        }
+        self.entered.fetch_or(1 << (worker % 64), Ordering::SeqCst);
+        for _turn in 0..10_000_000 {
+            if self.entered.load(Ordering::SeqCst).count_ones() >= self.workers {
+                return;
+            }
+            yield_now();
+        }
+    }
+}
+
+/// As many workers expand at the same time as were asked for. Each of the first fifteen of this graph leads on,
+/// or leads to eight others at least together, so that four can wait and none wants for an id.
+#[test]
+fn all_workers_meet(rt: HostRuntime) -> Result<(), Fail> {
+    let graph = unrefused(2, 31);
+    let root = Sig::of(rt.alloc(), &[0])?;
+    for workers in [1, 2, 3, 4] {
+        let gate = Meeting {
+            workers,
+            entered: AtomicU64::new(0),
+        };
+        match close_over_with(&rt, rt.alloc(), &graph, &root, 63, workers, &gate) {
+            Ok(closed) => assert_eq!(rt; closed.found.len(), 63),
+            Err(_fault) => assert!(rt; false, "{workers} workers are refused"),
+        }
+        assert_eq!(rt; gate.entered.load(Ordering::SeqCst), (1 << workers) - 1);
     }
     Ok(())
 }

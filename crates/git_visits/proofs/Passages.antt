@@ -1,5 +1,5 @@
 -- What a table shows at its opening, and after a list of steps.
-use Rattle.std.proofs.Common.{◌≡◌, ◌≢◌, ℕ, zero, suc, ◌+◌, ◌<◌, List, [], ◌∷◌, ◌++◌, set, slice_index, Bool, true, false, nat_lt, nat_eq, if◌then◌else◌, Option, Some, None, refl, sym, ap, ◌∙◌, subst, arith, inl, inr, ⊎_elim}
+use Rattle.std.proofs.Common.{◌≡◌, ◌≢◌, ℕ, zero, suc, ◌+◌, ◌<◌, List, [], ◌∷◌, true, false, nat_lt, nat_eq, Some, None, refl, sym, ap, ◌∙◌, subst, arith, ⊎_elim}
 use Rattle.std.proofs.lemmas.Bool.Decides.{nat_tests}
 use mathlib.Core.Logic.{dite}
 use native.Mathlib.Decide.{ℕ_discrete}
@@ -9,13 +9,13 @@ use Rattle.git_machine.proofs.Puts.{put_here, put_else}
 use Rattle.git_machine.proofs.Runs.{opens, keeps_run}
 use Rattle.git_visits.specs.declared.view.Key.{Key}
 use Rattle.git_visits.specs.Lists.{one, times}
-use Rattle.git_visits.specs.Visits.{hashes_of, record_of, state_of, Published, Ruled}
+use Rattle.git_visits.specs.Visits.{hashes_of, state_of, Ruled}
 use Rattle.git_visits.specs.Shown.{listed_of, queued_of, finished_of, hands_of, machine_of}
 use Rattle.git_visits.specs.Laws.{TableState, Stays, Happens}
-use Rattle.git_visits.specs.Runs.{opened, IsOpening, IsStep, IsRun, IsShown, OpeningShows, RunsAreShown}
+use Rattle.git_visits.specs.Runs.{opened, IsOpening, IsRun, IsShown, OpeningShows, RunsAreShown}
 use Rattle.git_visits.proofs.Cuts.{one_same, one_other}
 use Rattle.git_visits.proofs.Begins.{begins, root, state_root, state_rest, totals}
-use Rattle.git_visits.proofs.Events.{counted_some, counted_none, none_of}
+use Rattle.git_visits.proofs.Events.{counted_some, counted_none}
 
 module _ {G : Type 0} (next : G → Signature → List Signature → Type 0) where
   module _ (key : Key G) (ws : List ℕ) (o : IsOpening key ws) where

@@ -1,6 +1,5 @@
-use Rattle.std.proofs.Common.{◌≡◌, ◌+◌, slice_index, ◌∙◌, arith, sym}
+use Rattle.std.proofs.Common.{◌+◌, slice_index, ◌∙◌, arith, sym}
 use Rattle.std.specs.Slots.{slots_items}
-use Rattle.git_visits.specs.Lists.{cut, filled}
 use Rattle.git_visits.proofs.Cuts.{nonzero_is, nonzero_not}
 use Rattle.git_table.proofs.Closing.{at_read}
 use Rattle.git_table.proofs.Listings.{filled_step}

@@ -1,11 +1,10 @@
-use Rattle.std.proofs.Common.{rules, ◌≡◌, ◌≢◌, ℕ, ◌+◌, ◌-◌, ◌<◌, List, [], ◌∷◌, ◌++◌, length, slice_index, sym, ap, ◌∙◌, arith, Some, length-append}
+use Rattle.std.proofs.Common.{rules, ◌≡◌, ◌≢◌, ◌+◌, ◌-◌, ◌<◌, List, [], ◌∷◌, ◌++◌, length, slice_index, sym, ap, ◌∙◌, arith, Some, length-append}
 use Rattle.std.specs.Slots.{slots_items}
 use Rattle.std.proofs.lemmas.Grind.{common_steps}
 use Rattle.std.proofs.lemmas.List.Elements.{All-pop}
 use Rattle.git_machine.specs.Signatures.{Signature}
 use Rattle.git_table.specs.Listings.{IsRoom, rows, sigs_in}
 use Rattle.git_table.proofs.Closing.{at_read}
-use Rattle.git_visits.specs.Lists.{cut, filled}
 use Rattle.git_visits.proofs.Cuts.{nonzero_is, nonzero_not}
 use Rattle.git_table.proofs.Listings.{listed_none, listed_one, filled_step}
 use Rattle.git_table.proofs.ends.listed.Goals as goal

@@ -1,4 +1,4 @@
-use Rattle.std.proofs.Common.{◌≡◌, ◌⊎◌, ℕ, ◌+◌, List, sym, ap, ◌∙◌, subst, arith, add-zero, None}
+use Rattle.std.proofs.Common.{◌≡◌, ◌⊎◌, ℕ, ◌+◌, sym, ap, ◌∙◌, subst, arith, add-zero, None}
 use Rattle.std.specs.Slots.{slots_items}
 use mathlib.Core.Option.{some}
 use lib.ListN.{get_elem?}
