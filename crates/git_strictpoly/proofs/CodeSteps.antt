@@ -1,14 +1,13 @@
 -- The steps of the code.
-use Rattle.std.proofs.Common.{◌≡◌, ℕ, zero, suc, ◌+◌, ◌-◌, ◌<◌, ◌≤◌, true, false, List, [], ◌∷◌, length, get_or, take, drop, inl, inr, ◌&&◌, Ok, refl, sym, ap, ◌∙◌, arith}
+use Rattle.std.proofs.Common.{◌≡◌, ℕ, zero, suc, ◌+◌, ◌-◌, ◌<◌, ◌≤◌, true, false, List, [], ◌∷◌, length, get_or, take, drop, inl, inr, Ok, refl, sym, ap, ◌∙◌, arith}
 use Rattle.std.proofs.lemmas.Bool.{cases_lt}
 use Rattle.git_lines.specs.Numbers.{is_digit}
-use Rattle.std.specs.Prelude.{nat_le, not, ◌||◌}
 use Rattle.git_algebra.specs.Exponents.{Exponents, variable_power, times, degree}
 use Rattle.git_algebra.proofs.Monomials.{degree-times}
 use Rattle.git_polytext.specs.Terms.{product_of}
-use Rattle.git_strictpoly.specs.Strict.{begins, after_first, digits_front, after_digits, number_front, power_front, powers_after, sized_front, unsized_front}
+use Rattle.git_strictpoly.specs.Strict.{begins, after_first, digits_front, after_digits, power_front, powers_after}
 use Rattle.git_strictpoly.proofs.Powers.{powers_are, degree_power, degree_total}
-use Rattle.git_strictpoly.specs.declared.limits.TheConstants.{TEXT_DEGREE, LARGEST_SIZE, POWER_STEPS}
+use Rattle.git_strictpoly.specs.declared.limits.TheConstants.{TEXT_DEGREE}
 
 abbrev pub EndsAt : List ℕ → ℕ → Type 0
 EndsAt bs n = n < length bs → is_digit (get_or bs n 0) ≡ false
@@ -52,13 +51,3 @@ pub small_product : (r : ℕ) → r ≤ 16 → (n low d e place : ℕ) (s : List
 small_product r small n low d e place s vs t first others within part fits read hf ho =
     let p = powers_are n r small low d fits s vs t read in
     omega (arith, part, degree-times first others, ap degree hf, degree_power place e within, ap degree ho, degree_total r low small vs p.1, p.2)
-
-pub sized_go : (r : ℕ) (s : List ℕ) (n : ℕ) (vs : List (ℕ × ℕ)) (t : List ℕ) (m : Exponents) → number_front 5 1 s ≡ Ok n → (nat_le n LARGEST_SIZE && (not (begins 42 (after_digits s)) || nat_le 2 n)) ≡ true
-    → powers_after POWER_STEPS r 0 0 (after_digits s) ≡ Ok (vs, t) → m ≡ product_of vs → sized_front r s ≡ Ok ((m, n), t)
-unfolding sized_front
-sized_go r s n vs t m number test powers is = rw (number, test, powers) (ap (λ k. Ok ((k, n), t)) (sym is))
-
-pub unsized_go : (r : ℕ) (s : List ℕ) (v : ℕ × ℕ) (u : List ℕ) (vs : List (ℕ × ℕ)) (t : List ℕ) (m : Exponents) → power_front r 0 0 s ≡ Ok (v, u) → powers_after POWER_STEPS r (v.0 + 1) v.1 u ≡ Ok (vs, t)
-    → m ≡ product_of (v ∷ vs) → unsized_front r s ≡ Ok ((m, 1), t)
-unfolding unsized_front
-unsized_go r s v u vs t m power powers is = rw (power, powers) (ap (λ k. Ok ((k, 1), t)) (sym is))

@@ -99,9 +99,6 @@ pub stars_quiet : (vs : List (ℕ × ℕ)) (t : List ℕ) → IsEnd t → IsQuie
 stars_quiet [] t end = end.quiet
 stars_quiet (v ∷ vs) t end = record { no_digit = refl; no_caret = refl }
 
-ascend_small : (r low : ℕ) (v : ℕ × ℕ) (vs : List (ℕ × ℕ)) → low ≤ 16 → IsPlace r v.0 → r ≤ 16 → v.0 ≤ 16
-ascend_small r low v vs l p small = place_small r v.0 small p
-
 pub powers_again : (n r low d : ℕ) → r ≤ 16 → (vs : List (ℕ × ℕ)) (t : List ℕ) → length vs < n → Ascend r low vs → d + total vs ≤ TEXT_DEGREE → IsEnd t
     → powers_after n r low d (after_stars (map power_text vs) ++ t) ≡ Ok (vs, t)
 unfolding powers_after

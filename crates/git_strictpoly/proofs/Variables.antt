@@ -107,9 +107,6 @@ variable_by r small s i t false b e = bracket_is r small s i t e
 pub variable_is : (r : ℕ) → r ≤ 16 → (s : List ℕ) (i : ℕ) (t : List ℕ) → variable_front r s ≡ Ok (i, t) → (s ≡ variable_text i ++ t) × IsPlace r i
 variable_is r small s i t e = variable_by r small s i t (begins 121 s) refl e
 
-byte_again : (b : ℕ) (t : List ℕ) → byte_front b (b ∷ t) ≡ Ok t
-byte_again b t = let same : (b == b) ≡ true = grind (arith, nat_tests) in rw same refl
-
 bracket_again : (r i : ℕ) (t : List ℕ) → i < r → i < 16 → bracket_front r (84 ∷ 40 ∷ (decimal (i + 1) ++ (41 ∷ t))) ≡ Ok (i, t)
 unfolding bracket_front
 bracket_again r i t within small =

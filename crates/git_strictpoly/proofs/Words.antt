@@ -1,8 +1,6 @@
 -- The text of a polynomial within the limits is a word of a line.
-use Rattle.std.proofs.Common.{◌≡◌, ℕ, zero, suc, ◌+◌, ◌<◌, ◌≤◌, ◌^◌, List, [], ◌∷◌, length, get_or, Result, Ok, Err, refl, sym, ap, ◌∙◌, subst, arith}
+use Rattle.std.proofs.Common.{◌≡◌, ℕ, zero, suc, ◌<◌, ◌≤◌, ◌^◌, List, [], ◌∷◌, length, get_or, Ok, ap, subst, arith}
 use Rattle.std.specs.List.{AllByRecursion}
-use Rattle.git_lines.specs.declared.fault.FormKind.{FormKind}
-use Rattle.git_lines.specs.declared.fault.FormKind.TheVariants.{Syntax}
 use Rattle.git_lines.proofs.WrittenLines.{IsPlainWord}
 use Rattle.git_algebra.specs.Exponents.{Exponents, exponent, degree}
 use Rattle.git_algebra.specs.Sums.{Sum}
@@ -13,7 +11,6 @@ use Rattle.git_polytext.specs.Printing.{polynomial_text}
 use Rattle.git_polytext.proofs.TextBytes.{text_is_plain}
 use Rattle.git_strictpoly.specs.Strict.{bracket_front, power_front, unsized_front, terms_front, strict_polynomial}
 use Rattle.git_strictpoly.specs.Laws.{FitsMonomial, FitsTerm, FitsPoly}
-use Rattle.git_strictpoly.specs.declared.limits.TheConstants.{TEXT_DEGREE}
 use Rattle.git_strictpoly.proofs.Sums.{printed_is_read}
 
 exponent_below : (a : Exponents) (i : ℕ) → exponent a i ≤ degree a
