@@ -1,18 +1,15 @@
 -- A first fault lies in the text, and what follows its line doesn't change it.
-use Rattle.std.proofs.Common.{◌≡◌, ◌≢◌, ◌⊎◌, ℕ, zero, suc, ◌+◌, ◌-◌, ◌<◌, ◌≤◌, List, [], ◌∷◌, length, map, take, drop, get_or, Option, Some, None, Result, Ok, Err, refl, sym, ap, ◌∙◌, subst, inl, inr, arith}
+use Rattle.std.proofs.Common.{◌≡◌, ◌⊎◌, ℕ, zero, suc, ◌+◌, ◌-◌, ◌<◌, ◌≤◌, List, [], ◌∷◌, length, map, drop, get_or, Option, Some, None, Result, Ok, Err, refl, sym, ap, ◌∙◌, subst, inl, inr, arith}
 use Rattle.std.specs.Prelude.{ℤ, pos}
 use Rattle.std.proofs.Math.IntN.{neg_ℤ}
 use Rattle.std.proofs.Math.Seq.{drop-cons}
 use Rattle.std.proofs.Math.ListN.{drop_of_length-le}
-use Rattle.std.proofs.lemmas.List.{get_or-take, length-take}
 use Rattle.std.proofs.lemmas.Bool.{cases_lt}
 use Rattle.git_algebra.specs.Exponents.{Exponents}
-use Rattle.git_algebra.specs.Polynomials.{Polynomial}
-use Rattle.git_defs.specs.Vectors.{Vector}
 use Rattle.git_grading.specs.Gradings.{Degrees}
 use Rattle.git_lines.specs.declared.fault.FormFault.{FormFault}
 use Rattle.git_lines.specs.declared.tokens.Joining.TheVariants.{Words}
-use Rattle.git_lines.specs.Lines.{RestOfText, NumberedLine, IsColumnOf, content, contents, lines_of}
+use Rattle.git_lines.specs.Lines.{RestOfText, NumberedLine, IsColumnOf, content, contents}
 use Rattle.git_lines.specs.Tokens.{RestOfLine, rest_of_line}
 use Rattle.git_lines.specs.Reading.{◌>>=◌, lift, times, line_at, next_line, line_by, nothing_at, no_line, word_token, integer_token, no_token}
 use Rattle.git_lines.proofs.Extents.{IsLeftOf, rest_is_left, InLine, in_line_then, times_in_line, word_in_line, integer_in_line, no_token_in_line}
@@ -22,15 +19,14 @@ use Rattle.git_polytext.specs.Reading.{polynomial_line}
 use Rattle.git_polytext.specs.Laws.{IsFaultOf}
 use Rattle.git_polytext.proofs.FaultKinds.{line_tells}
 use Rattle.git_text.specs.declared.fault.BadKind.{BadKind}
-use Rattle.git_text.specs.declared.fault.BadKind.TheVariants.{Truncated, Trailing}
 use Rattle.git_text.specs.declared.fault.InputFault.{InputFault}
 use Rattle.git_text.specs.declared.fault.InputFault.TheVariants.{Bad, NoMemory}
 use Rattle.git_text.specs.Faults.{form_bad, polynomial_bad, as_input}
 use Rattle.git_input.specs.Inputs.{InputValue}
-use Rattle.git_text.specs.Grammar.{columns_of, contents_of}
+use Rattle.git_text.specs.Grammar.{contents_of}
 use Rattle.git_text.specs.OneDegree.{apart}
 use Rattle.git_text.specs.Laws.{IsPlaceIn}
-use Rattle.git_text.specs.Reading.{header_words, header_line, as_header, sizes_line, row_line, ideal_line, end_line, generator_line, homogeneous_by, form_by, next_by, sizes_at, rows_at, columns_at, matrix_at, generators_at, rest_at, nothing_after, Verdict, judged_by, JudgesMatrix, JudgesGrading, JudgesRead, ReadsFront, whole_text, Reads, IsFirstFault}
+use Rattle.git_text.specs.Reading.{header_words, header_line, as_header, sizes_line, row_line, ideal_line, end_line, generator_line, homogeneous_by, form_by, next_by, sizes_at, rows_at, columns_at, matrix_at, generators_at, rest_at, nothing_after, Verdict, judged_by, JudgesRead, whole_text, IsFirstFault}
 use Rattle.git_text.specs.Reading.Verdict.{grades, low_rank, unpointed}
 
 -- ---- what a line's reader gives

@@ -1,15 +1,14 @@
 -- An input at the head of a longer text is read as the bytes of the first lines.
-use Rattle.std.proofs.Common.{◌≡◌, ◌≢◌, ◌⊎◌, inl, inr, ℕ, zero, suc, ◌+◌, ◌-◌, ◌<◌, ◌≤◌, Bool, true, false, cond, List, [], ◌∷◌, ◌++◌, length, map, take, drop, Result, Ok, Err, MatchResult, refl, sym, ap, ◌∙◌, subst, append_assoc, length-append, arith}
-use Rattle.std.specs.Prelude.{IfOk, ◌==◌}
-use Rattle.std.specs.List.{concat, list_all, AllByRecursion}
-use Rattle.std.proofs.Math.Seq.{take-append_seam, drop-append_seam}
-use Rattle.std.proofs.lemmas.List.{append-nil, append_cancel_right, take-append-drop, length-take-le, length-drop, map-append}
+use Rattle.std.proofs.Common.{◌≡◌, ◌≢◌, ℕ, zero, suc, ◌+◌, ◌-◌, ◌≤◌, Bool, true, false, cond, List, [], ◌∷◌, ◌++◌, length, map, take, drop, Result, Ok, Err, refl, sym, ap, ◌∙◌, subst, append_assoc, length-append, arith}
+use Rattle.std.specs.Prelude.{◌==◌}
+use Rattle.std.specs.List.{concat}
+use Rattle.std.proofs.Math.Seq.{take-append_seam}
+use Rattle.std.proofs.lemmas.List.{append_cancel_right, take-append-drop, length-take-le, length-drop, map-append}
 use Rattle.std.proofs.lemmas.List.Folds.{concat-append}
 use Rattle.git_grading.specs.Gradings.{Degrees, IsGrading}
-use Rattle.git_lines.specs.declared.fault.FormFault.{FormFault}
-use Rattle.git_lines.specs.Lines.{RestOfText, content, contents, ended, lines_of, onto_first, no_line_feed, text_from}
+use Rattle.git_lines.specs.Lines.{RestOfText, content, contents, ended, lines_of, onto_first, text_from}
 use Rattle.git_lines.specs.Reading.{◌>>=◌, lift, times, line_at, next_line, line_by, no_line, nothing_at}
-use Rattle.git_lines.proofs.Exact.{bind_ok, ok_is}
+use Rattle.git_lines.proofs.Exact.{ok_is}
 use Rattle.git_lines.proofs.FirstLine.{lines_make}
 use Rattle.git_input.specs.Inputs.{InputValue, AreGenerators}
 use Rattle.git_text.specs.declared.fault.BadKind.{BadKind}
@@ -20,7 +19,7 @@ use Rattle.git_text.specs.Faults.{form_bad, as_input, FailsUnlessFull}
 use Rattle.git_text.specs.Fronts.{AreFirstLines, IsFront, IsFirstFrontFault}
 use Rattle.git_text.specs.Grammar.{contents_of, IsInputFront, IsInput}
 use Rattle.git_text.specs.Writing.{input_lines, input_text}
-use Rattle.git_text.specs.Reading.{header_line, sizes_line, row_line, ideal_line, end_line, generator_line, form_by, next_by, sizes_at, rows_at, columns_at, matrix_at, generators_at, rest_at, Verdict, judged_by, JudgesRead, ReadsGrading, ReadsFront, nothing_after, whole_text, Reads, IsFirstFault}
+use Rattle.git_text.specs.Reading.{row_line, ideal_line, end_line, generator_line, form_by, next_by, sizes_at, rows_at, columns_at, matrix_at, generators_at, rest_at, Verdict, judged_by, JudgesRead, ReadsFront, nothing_after, whole_text, IsFirstFault}
 use Rattle.git_text.specs.Reading.Verdict.{grades, low_rank, unpointed}
 use Rattle.git_text.proofs.FaultPlaces.{form_is_next, sizes_are_next}
 use Rattle.git_text.proofs.ReadBackInputs.{input_back}
@@ -40,9 +39,6 @@ leaves_more ls ms front (Err f) e h = tt
 leaves_then : {A B : Type 0} (ls : List (List ℕ)) (r : Result (A × RestOfText) InputFault) (f : A × RestOfText → Result (B × RestOfText) InputFault) → Leaves ls r → ((p : A × RestOfText) → Leaves p.1.lines (f p)) → Leaves ls (r >>= f)
 leaves_then ls (Ok p) f h k = leaves_more ls p.1.lines h.0 (f p) h.1 (k p)
 leaves_then ls (Err e) f h k = tt
-
-leaves_all : {A : Type 0} (x : A) (s : RestOfText) → Leaves s.lines (Ok (x, s))
-leaves_all x s = ([], refl)
 
 next_leaves : {A : Type 0} (read : ℕ → List ℕ → Result A InputFault) (s : RestOfText) → Leaves s.lines (next_by read s)
 unfolding line_by next_line
@@ -129,9 +125,6 @@ front_back (b ∷ bytes) (f ∷ front) rest e = by (b == 10) refl e (front_back 
         let tail : lines_of bytes ≡ front ++ rest = cc h in
         rw (sym head) (rw feed (ap (λ x. (b ∷ []) ∷ x) (ih front rest tail)))
     by false feed h ih = onto_back b (lines_of bytes) (f ∷ front) rest h (λ x. cc x) (λ fs is. ih fs rest is) feed
-
-first_parts : (xs ys : List (List ℕ)) → take (length xs) (xs ++ ys) ≡ xs
-first_parts xs ys = take-append_seam xs ys
 
 -- how many bytes are before lines that are left
 abbrev pub used_by : List ℕ → List (List ℕ) → ℕ

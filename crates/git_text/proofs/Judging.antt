@@ -1,15 +1,14 @@
 -- The lines up to the last row, judged: what each step of the code gives.
 use Rattle.std.proofs.Common.{◌≡◌, ℕ, ◌-◌, List, Result, Ok, Err, refl, sym, subst}
-use Rattle.git_defs.specs.Vectors.{Vector, HasRank, HasZeroSum}
+use Rattle.git_defs.specs.Vectors.{Vector}
 use Rattle.git_grading.specs.Gradings.{Degrees, IsGrading}
 use Rattle.git_lines.specs.declared.fault.FormFault.{FormFault}
 use Rattle.git_lines.specs.Lines.{RestOfText}
-use Rattle.git_text.specs.declared.fault.BadKind.TheVariants.{Rank, Pointed}
 use Rattle.git_text.specs.declared.fault.InputFault.{InputFault}
 use Rattle.git_text.specs.declared.fault.InputFault.TheVariants.{Bad, NoMemory}
 use Rattle.git_text.specs.Faults.{form_bad, Fails, FailsUnlessFull, FitsUnlessFull, GivesUnlessFull}
 use Rattle.git_input.specs.Inputs.{InputValue}
-use Rattle.git_text.specs.Reading.Verdict.{grades, low_rank, unpointed}
+use Rattle.git_text.specs.Reading.Verdict.{grades}
 use Rattle.git_text.specs.Reading.{sizes_at, columns_at, matrix_at, rest_at, JudgesMatrix, JudgesGrading, JudgesRead, ReadsGrading, ReadsFront}
 
 -- ---- the matrix

@@ -1,5 +1,5 @@
 -- What follows the line of a first fault doesn't change it, where it isn't that something is missing or too much at the end.
-use Rattle.std.proofs.Common.{◌≡◌, ◌≢◌, ◌⊎◌, ℕ, zero, suc, ◌+◌, ◌-◌, ◌<◌, ◌≤◌, List, [], ◌∷◌, length, map, take, drop, get_or, Result, Ok, Err, refl, sym, ap, ◌∙◌, subst, inl, inr, arith}
+use Rattle.std.proofs.Common.{◌≡◌, ◌≢◌, ℕ, zero, suc, ◌+◌, ◌-◌, ◌<◌, ◌≤◌, List, [], ◌∷◌, length, map, take, drop, get_or, Result, Ok, Err, refl, sym, ap, ◌∙◌, subst, inl, inr, arith}
 use Rattle.std.proofs.Math.Seq.{drop-cons}
 use Rattle.std.proofs.lemmas.Bool.{cases_lt}
 use Rattle.std.proofs.lemmas.List.{get_or-take, length-take}
@@ -7,16 +7,16 @@ use Rattle.git_defs.specs.Vectors.{Vector}
 use Rattle.git_grading.specs.Gradings.{Degrees}
 use Rattle.git_algebra.specs.Polynomials.{Polynomial}
 use Rattle.git_lines.specs.declared.fault.FormFault.{FormFault}
-use Rattle.git_lines.specs.Lines.{RestOfText, content, contents, lines_of}
+use Rattle.git_lines.specs.Lines.{RestOfText, content, lines_of}
 use Rattle.git_lines.specs.Reading.{◌>>=◌, lift, times, line_at, next_line, line_by, nothing_at, no_line}
 use Rattle.git_input.specs.Inputs.{InputValue}
 use Rattle.git_text.specs.declared.fault.BadKind.{BadKind}
-use Rattle.git_text.specs.declared.fault.BadKind.TheVariants.{Truncated, Trailing, Rank, Pointed}
+use Rattle.git_text.specs.declared.fault.BadKind.TheVariants.{Truncated, Trailing}
 use Rattle.git_text.specs.declared.fault.InputFault.{InputFault}
 use Rattle.git_text.specs.declared.fault.InputFault.TheVariants.{Bad, NoMemory}
 use Rattle.git_text.specs.Faults.{form_bad, as_input}
 use Rattle.git_text.specs.Grammar.{columns_of, contents_of}
-use Rattle.git_text.specs.Reading.{header_line, sizes_line, row_line, ideal_line, end_line, generator_line, form_by, next_by, sizes_at, rows_at, columns_at, matrix_at, generators_at, rest_at, nothing_after, Verdict, IsVerdict, judged_by, JudgesMatrix, JudgesGrading, JudgesRead, ReadsGrading, ReadsFront, whole_text, Reads, IsFirstFault}
+use Rattle.git_text.specs.Reading.{row_line, ideal_line, end_line, generator_line, form_by, next_by, sizes_at, rows_at, columns_at, matrix_at, generators_at, rest_at, nothing_after, Verdict, IsVerdict, judged_by, JudgesRead, ReadsFront, whole_text, IsFirstFault}
 use Rattle.git_text.specs.Reading.Verdict.{grades, low_rank, unpointed}
 use Rattle.git_text.proofs.FaultPlaces.{OfLine, AtLine, Lies, LiesOn, lies_on, some_line, header_of_line, sizes_of_line, row_of_line, ideal_of_line, end_of_line, generator_of_line, next_lies, times_lie, form_is_next, sizes_are_next, sizes_lie, columns_lie, matrix_lies, generators_lie, rest_lies, at_start}
 

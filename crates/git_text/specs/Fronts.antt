@@ -1,5 +1,5 @@
 -- An input at the head of a longer text.
-use Rattle.std.specs.Prelude.{◌≡◌, ◌≢◌, ◌⊎◌, ◌↔◌, ℕ, ◌-◌, ◌≤◌, List, ◌++◌, length, take, slice_index, Ok, Err}
+use Rattle.std.specs.Prelude.{◌≡◌, ◌≢◌, ℕ, ◌≤◌, List, ◌++◌, length, take, Err}
 use Rattle.std.specs.List.{concat}
 use Rattle.git_lines.specs.Lines.{lines_of}
 use Rattle.git_grading.specs.Gradings.{IsGrading}
