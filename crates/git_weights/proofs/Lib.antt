@@ -1,0 +1,3 @@
+pub mod ExactLines
+pub mod ExactText
+pub mod Answers
