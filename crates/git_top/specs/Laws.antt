@@ -2,6 +2,7 @@
 use Rattle.std.specs.Prelude.{◌≡◌, ℕ, ◌+◌, ◌*◌, ◌^◌, ◌≤◌, Bool, true, false, List, length}
 use Rattle.git_base.specs.declared.status.Status.{Status}
 use Rattle.git_base.specs.declared.status.Status.TheVariants.{Done}
+use Rattle.git_base.specs.Status.{code_of}
 use Rattle.git_limits.specs.declared.TheConstants.{INPUT_BYTES}
 use Rattle.git_stages.specs.declared.wide.WideAt.{WideAt}
 use Rattle.git_ideals.specs.Faces.{IsAFace}
@@ -30,6 +31,14 @@ OneAnswer = (words : List (List ℕ)) (bytes : List ℕ) → HasOne (answer_to w
 -- and one at least
 abbrev pub EachHasAnAnswer : Type 0
 EachHasAnAnswer = (words : List (List ℕ)) (bytes : List ℕ) → HasSome (answer_to words bytes)
+
+-- the status has a code below those of faults of reading, of writing and of memory
+abbrev pub IsBelowFaults : Status → Type 0
+IsBelowFaults s = code_of s ≤ 10
+
+-- and none of them is such a fault
+abbrev pub NoAnswerIsAFault : Type 0
+NoAnswerIsAFault = (words : List (List ℕ)) (bytes : List ℕ) (o : Outcome) → answer_to words bytes o → IsBelowFaults o.status
 
 -- the run of each full face ends within the steps
 abbrev pub AllEnd : InputValue → ℕ → Type 0

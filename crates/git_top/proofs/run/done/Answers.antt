@@ -2,7 +2,9 @@ use Rattle.std.proofs.Common.{sym, subst}
 use Rattle.git_base.specs.Faults.{HasRisen}
 use Rattle.git_answers.specs.Ends.{over, Ends}
 use Rattle.git_words.specs.declared.commands.Command.{Command}
-use Rattle.git_commands.specs.Commands.{reply_of}
+use Rattle.git_words.specs.declared.commands.Command.TheVariants.{Fan, Faces, Make}
+use Rattle.git_commands.specs.Commands.{Reads, reply_of}
+use Rattle.git_top.proofs.Faultless.{read_rose}
 use Rattle.git_top.proofs.Replied.{made_ends}
 use Rattle.git_top.proofs.run.done.Goals as goal
 
@@ -19,3 +21,16 @@ returns-in-Make-clause-answers g c =
     subst (λ (command : Command). Ends (over (g.S.Source.left c.args.source.now) (reply_of command)) (HasRisen (g.S.Source.faults c.args.source.now) (g.S.Source.faults c.args.source.now)) (HasRisen (g.K.Sink.faults c.args.sink.now) (g.K.Sink.faults c.make_run.new.sink)) (g.K.Sink.written c.args.sink.now) (g.K.Sink.written c.make_run.new.sink) c.make_run.result) (sym c.in-Make.is)
     (made_ends c.in-Make.sample c.in-Make.run' (g.S.Source.left c.args.source.now) (HasRisen (g.S.Source.faults c.args.source.now) (g.S.Source.faults c.args.source.now)) (HasRisen (g.K.Sink.faults c.args.sink.now) (g.K.Sink.faults c.make_run.new.sink))
     (g.K.Sink.written c.args.sink.now) (g.K.Sink.written c.make_run.new.sink) c.make_run.result c.make_run.ensures)
+
+pub returns-in-Fan-clause-fault : goal.returns-in-Fan-clause-fault
+returns-in-Fan-clause-fault g c is =
+    (subst Reads (sym c.in-Fan.is) tt, read_rose (Fan c.in-Fan.workers c.in-Fan.table c.in-Fan.steps c.in-Fan.certs) _ _ _ _ _ c.listed_by.result c.listed_by.ensures.answers is)
+
+pub returns-in-Faces-clause-fault : goal.returns-in-Faces-clause-fault
+returns-in-Faces-clause-fault g c is =
+    (subst Reads (sym c.in-Faces.is) tt, read_rose (Faces c.in-Faces.steps) _ _ _ _ _ c.faces_run.result c.faces_run.ensures.answers is)
+
+pub returns-in-Make-clause-fault : goal.returns-in-Make-clause-fault
+returns-in-Make-clause-fault g c is =
+    absurd (read_rose (Make c.in-Make.sample c.in-Make.run') (g.S.Source.left c.args.source.now) ⊥ _ _ _ c.make_run.result
+    (made_ends c.in-Make.sample c.in-Make.run' (g.S.Source.left c.args.source.now) ⊥ _ _ _ c.make_run.result c.make_run.ensures) is)
