@@ -37,5 +37,3 @@ undominated_exact k A R S g primitive u = record { edges = edge; primitive = λ 
   complete : (x : Vector) → IsEdge k (Cut k A) x → RayOf S x
   complete x e = let o = ray_of_generator k (Cut k A) R x (cut_closed k A) (inside_at g) e (g.all x e.member) in
       record { one = o.one; member = kept x o.one e (as_member R o.member) o.on; on = o.on }
-
--- generators of a cone: with the facets by double description, the rays by dropping

@@ -28,3 +28,15 @@ pub const EXPONENT: u32 = 64;
 
 /// The most bytes of an input, 4 MiB.
 pub const INPUT_BYTES: usize = 4 << 20;
+
+/// The most steps of one run of Buchberger's algorithm.
+pub const STEPS: u64 = 20_000_000;
+
+/// The most signatures that a table holds.
+pub const SIGNATURES: usize = 65_536;
+
+/// The most workers that share a table.
+pub const WORKERS: usize = 64;
+
+/// The most words that the signatures of a table take, 2^24.
+pub const WORDS: usize = 1 << 24;
