@@ -14,10 +14,13 @@ mod walls;
 
 pub use around::holding;
 pub use cell::{Cell, Chamber, ChamberFault, Side};
-pub use crossing::{behind, cross};
+pub use crossing::{behind, cross, first_negative, outside};
 pub use describing::chamber;
-pub use germs::first_germ;
+pub use difference::difference;
+pub use germs::{column_sum, crossing_germ, first_germ, weight_germ};
 pub use graph::FanGraph;
+pub use sums::{sum, wall_sum};
+pub use walls::{facets_of, walls};
 
 #[cfg(test)]
 mod tests;
