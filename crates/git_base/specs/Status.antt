@@ -1,7 +1,7 @@
 -- The exit code of each status.
 use Rattle.std.specs.Prelude.{ℕ}
 use Rattle.git_base.specs.declared.status.Status.{Status}
-use Rattle.git_base.specs.declared.status.Status.TheVariants.{Done, Invalid, Usage, BadInput, Monomial, Wide, Crossed, Full, Steps, Degree, TableWide, ReadFault, WriteFault, NoMemory}
+use Rattle.git_base.specs.declared.status.Status.TheVariants.{Done, Invalid, Usage, BadInput, Monomial, Wide, Crossed, Full, Steps, Degree, TableWide, ReadFault, WriteFault, NoMemory, TooMany}
 
 -- the code with which the process ends
 abbrev pub code_of : Status → ℕ
@@ -19,3 +19,4 @@ code_of TableWide = 10
 code_of ReadFault = 11
 code_of WriteFault = 12
 code_of NoMemory = 13
+code_of TooMany = 15

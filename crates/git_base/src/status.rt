@@ -32,12 +32,14 @@ pub enum Status {
     WriteFault,
     /// There wasn't enough memory.
     NoMemory,
+    /// A list would have more entries than the program writes.
+    TooMany,
 }
 
 impl Status {
     ghost use Rattle.git_base.specs.Status.{code_of};
 
-    /// The code with which the process ends, from 0 to 13.
+    /// The code with which the process ends, from 0 to 13 or 15.
     pub fn code(self) -> u8
         ensures { result ≡ code_of self }
     {
@@ -56,6 +58,7 @@ impl Status {
             Status::ReadFault => 11,
             Status::WriteFault => 12,
             Status::NoMemory => 13,
+            Status::TooMany => 15,
         }
     }
 }
