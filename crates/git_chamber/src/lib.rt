@@ -5,22 +5,22 @@ mod around;
 mod cell;
 mod crossing;
 mod describing;
-mod difference;
+mod differing;
 mod germs;
 mod graph;
 pub mod laws;
 mod sums;
-mod walls;
+mod wall_lists;
 
 pub use around::holding;
 pub use cell::{Cell, Chamber, ChamberFault, Side};
 pub use crossing::{behind, cross, first_negative, outside};
 pub use describing::chamber;
-pub use difference::difference;
+pub use differing::difference;
 pub use germs::{column_sum, crossing_germ, first_germ, weight_germ};
 pub use graph::FanGraph;
 pub use sums::{sum, wall_sum};
-pub use walls::{facets_of, walls};
+pub use wall_lists::{facets_of, walls};
 
 #[cfg(test)]
 mod tests;

@@ -1,7 +1,7 @@
 use Rattle.std.proofs.Common.{◌<◌, ◌*◌, length, ℕ, arith}
 use Rattle.git_machine.specs.Signatures.{Signature, Has}
 use Rattle.git_machine.proofs.Words.{equal_sets, within, has_one}
-use Rattle.git_chamber.proofs.difference.difference.Goals as goal
+use Rattle.git_chamber.proofs.differing.difference.Goals as goal
 
 below : (s : Signature) (n : ℕ) → Has s n → n < 64 * length s
 below s n h = within s n (has_one s n h)

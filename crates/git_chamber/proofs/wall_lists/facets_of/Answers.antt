@@ -3,7 +3,7 @@ use Rattle.git_defs.specs.Vectors.{Vector}
 use Rattle.git_orbit.specs.Signatures.{facets_at}
 use Rattle.git_orbit.proofs.Fans.{cone_seen}
 use Rattle.git_chamber.proofs.Facets.{cone_facets, fan_seen}
-use Rattle.git_chamber.proofs.walls.facets_of.Goals as goal
+use Rattle.git_chamber.proofs.wall_lists.facets_of.Goals as goal
 
 pub returns-clause-few : goal.returns-clause-few
 returns-clause-few c =
