@@ -159,8 +159,9 @@ fn derived_run(alloc: Global, start: &[Poly], limit: u64) -> Result<Option<Ended
     }
 }
 
-/// The run with all cofactors, which is the definition's own state.
-pub(crate) fn eager_run(alloc: Global, start: &[Poly], limit: u64) -> Result<Ended, BasisFault>
+/// The same answer as [`run`], by the definition's own state: all cofactors are carried along at each step,
+/// which is slow. `run` asks it where a bound of degrees says nothing.
+pub fn eager_run(alloc: Global, start: &[Poly], limit: u64) -> Result<Ended, BasisFault>
     requires nonzero { AreNonzero start.now }
     requires small { All (λ f. total_degree f ≤ RUN_DEGREE) start.now }
     requires few { length start.now < 65536 }

@@ -13,6 +13,3 @@ mod terms;
 pub use degrees::degree_of;
 pub use fault::PolyFault;
 pub use poly::Poly;
-
-#[cfg(test)]
-mod tests;

@@ -9,6 +9,3 @@ mod pairs;
 
 pub use division::{Division, divide, divides_to_zero};
 pub use pairs::s_poly;
-
-#[cfg(test)]
-mod tests;

@@ -1,10 +1,10 @@
 //! Divisions and S-polynomials worked by hand, in T(1) and T(2).
 
-use crate::{divide, divides_to_zero, s_poly};
 use git_base::NoMemory;
 use git_field::Fp;
 use git_mono::{MONO_DEGREE, Mono};
 use git_poly::{Poly, PolyFault};
+use git_reduce::{divide, divides_to_zero, s_poly};
 use std::alloc::Global;
 use std::test::Fail;
 

@@ -1,6 +1,6 @@
 use Rattle.std.proofs.Common.{◌≡◌, ◌<◌, ◌≤◌, ℕ, length}
 use Rattle.git_algebra.specs.Exponents.{exponent}
-use Rattle.git_poly.proofs.tests.is_graded.Given as goal
+use Rattle.git_algebra_tests.proofs.polynomials.is_graded.Given as goal
 
 abbrev pub invariant-loop-i : goal.invariant-loop-i
 invariant-loop-i l = record {

@@ -3,12 +3,12 @@
 ghost use Rattle.std.specs.Prelude.{IsTrue};
 ghost use Rattle.git_poly.specs.Degrees.{IsGradedBy};
 
-use crate::{Poly, PolyFault, degree_of};
 use git_base::NoMemory;
 use git_field::Fp;
 use git_grading::Grading;
 use git_ints::IVec;
 use git_mono::{MONO_DEGREE, Mono};
+use git_poly::{Poly, PolyFault, degree_of};
 use std::alloc::Global;
 use std::test::Fail;
 
