@@ -7,6 +7,3 @@ mod dropping;
 mod sameness;
 
 pub use canon::{Canon, CanonFault};
-
-#[cfg(test)]
-mod tests;

@@ -21,6 +21,3 @@ pub use germs::{column_sum, crossing_germ, first_germ, weight_germ};
 pub use graph::FanGraph;
 pub use sums::{sum, wall_sum};
 pub use wall_lists::{facets_of, walls};
-
-#[cfg(test)]
-mod tests;

@@ -12,6 +12,3 @@ pub use git_adjacency::{Ray, are_adjacent, first_rays, has_common};
 pub use git_elimination::StageFault;
 pub use git_stages::{WideAt, WideWhat};
 pub use listing::{full_rays, rays};
-
-#[cfg(test)]
-mod tests;

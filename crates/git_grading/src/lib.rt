@@ -9,6 +9,3 @@ mod minors;
 
 pub use fault::GradingFault;
 pub use grading::Grading;
-
-#[cfg(test)]
-mod tests;

@@ -25,6 +25,3 @@ pub use lines::{Line, Lines};
 pub use numbers::{are_digits, integer_of, integer_once_of, natural_of, natural_once_of, value_of};
 pub use parts::{Part, Parts, Separator};
 pub use tokens::{Cursor, Joining, Token};
-
-#[cfg(test)]
-mod tests;

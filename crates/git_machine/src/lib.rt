@@ -20,6 +20,3 @@ pub use place::Place;
 pub use signature::Sig;
 pub use state::State;
 pub use successors::{CloseFault, Closed, Expansion, Found, Successors};
-
-#[cfg(test)]
-mod tests;

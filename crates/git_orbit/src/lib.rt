@@ -14,6 +14,3 @@ mod words;
 pub use germ::Germ;
 pub use orbit::{Cones, ConesFault, OrbitCone};
 pub use signs::{held, sign};
-
-#[cfg(test)]
-mod tests;

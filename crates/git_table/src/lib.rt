@@ -20,6 +20,3 @@ mod visited;
 pub use answers::{Hinted, Listed, Offer, Taken};
 pub use frontier::Frontier;
 pub use seat::Seat;
-
-#[cfg(test)]
-mod tests;

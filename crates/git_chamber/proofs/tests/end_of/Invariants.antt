@@ -1,5 +1,0 @@
-use Rattle.git_orbit.specs.Signatures.{IsLegal}
-use Rattle.git_chamber.proofs.tests.end_of.Given as goal
-
-abbrev pub invariant-loop-normal : goal.invariant-loop-normal
-invariant-loop-normal l = IsLegal l.graph.fan l.sig

@@ -1,5 +1,0 @@
-use Rattle.git_orbit.proofs.FullMasks.{FacesFrom}
-use Rattle.git_chamber.proofs.tests.full_masks.Given as goal
-
-abbrev pub invariant-loop-i : goal.invariant-loop-i
-invariant-loop-i l = FacesFrom l.g.k l.g.columns l.count l.i l.out.items

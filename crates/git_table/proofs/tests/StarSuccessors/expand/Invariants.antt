@@ -1,6 +1,0 @@
-use Rattle.std.proofs.Common.{◌≡◌}
-use Rattle.git_table.specs.Spokes.{spokes}
-use Rattle.git_table.proofs.tests.StarSuccessors.expand.Given as goal
-
-abbrev pub invariant-loop-i : goal.invariant-loop-i
-invariant-loop-i l = l.next.items ≡ spokes l.i
