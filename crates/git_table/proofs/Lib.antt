@@ -7,4 +7,3 @@ pub mod Closing
 pub mod Stacks
 pub mod SeatViews
 pub mod Endings
-pub mod Spokes

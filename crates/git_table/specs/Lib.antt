@@ -4,4 +4,3 @@ pub mod Listings
 pub mod Views
 pub mod Calls
 pub mod Stacks
-pub mod Spokes

@@ -4,7 +4,7 @@ ghost use Rattle.std.specs.Prelude.{◌≡◌, ◌<◌, ◌≤◌, ◌+◌, ℕ,
 ghost use Rattle.std.specs.List.{All, Contains};
 ghost use Rattle.git_machine.specs.Signatures.{Signature};
 ghost use Rattle.git_table.specs.Calls.{IsOf, Sees, room, first_seat};
-ghost use Rattle.git_table.specs.Spokes.{spokes, HasHand, IsCaller};
+ghost use Rattle.git_table_tests.specs.Spokes.{spokes, HasHand, IsCaller};
 
 use git_base::NoMemory;
 use git_machine::{Expansion, Sig, Successors};
@@ -24,7 +24,7 @@ impl Successors for Star {
     ghost use Rattle.std.proofs.Common.{sym, ◌∙◌, subst};
     ghost use Rattle.std.specs.List.{All};
     ghost use Rattle.git_machine.specs.Signatures.{Signature};
-    ghost use Rattle.git_table.specs.Spokes.{spokes, spokes_wide};
+    ghost use Rattle.git_table_tests.specs.Spokes.{spokes, spokes_wide};
 
     type Payload = ();
 

@@ -5,8 +5,8 @@ use Rattle.git_table.specs.declared.tests.Star.{Star}
 use Rattle.git_table.specs.declared.tests.Caller.{Caller}
 use Rattle.git_table.specs.Views.{FrontierView, SeatView}
 use Rattle.git_table.specs.Calls.{IsOf}
-use Rattle.git_table.specs.Spokes.{IsCaller}
-use Rattle.git_table.proofs.Spokes.{free_caller}
+use Rattle.git_table_tests.specs.Spokes.{IsCaller}
+use Rattle.git_table_tests.proofs.Spokes.{free_caller}
 use Rattle.git_table_tests.proofs.table.callers.Goals as goal
 
 -- one caller more

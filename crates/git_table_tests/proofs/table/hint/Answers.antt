@@ -1,6 +1,6 @@
 use Rattle.std.proofs.Common.{subst}
 use Rattle.git_table.specs.Calls.{HintTells}
-use Rattle.git_table.proofs.Spokes.{hint_read}
+use Rattle.git_table_tests.proofs.Spokes.{hint_read}
 use Rattle.git_table_tests.proofs.table.hint.Goals as goal
 
 pub returns-in-Work : goal.returns-in-Work

@@ -4,7 +4,7 @@ use Rattle.std.proofs.lemmas.List.Elements.{All-pop}
 use Rattle.git_table.specs.declared.tests.Star.{Star}
 use Rattle.git_table.specs.declared.tests.Caller.{Caller}
 use Rattle.git_table.specs.Views.{FrontierView, SeatView}
-use Rattle.git_table.specs.Spokes.{IsCaller}
+use Rattle.git_table_tests.specs.Spokes.{IsCaller}
 use Rattle.git_table_tests.proofs.table.joined.Goals as goal
 
 -- the last caller, and the others

@@ -1,7 +1,7 @@
 use Rattle.std.proofs.Common.{◌≡◌, ◌+◌, length, None}
 use Rattle.std.specs.List.{All}
 use Rattle.git_table.specs.Calls.{IsOf}
-use Rattle.git_table.specs.Spokes.{IsCaller}
+use Rattle.git_table_tests.specs.Spokes.{IsCaller}
 use Rattle.git_table_tests.proofs.table.joined.Given as goal
 
 abbrev pub invariant-loop-other : goal.invariant-loop-other

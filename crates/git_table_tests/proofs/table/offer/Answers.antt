@@ -1,8 +1,8 @@
 use Rattle.std.proofs.Common.{◌≡◌, ℕ, ◌<◌, ◌≤◌, refl, sym, ap, subst, arith, Bool, true, false}
 use Rattle.std.specs.List.{Contains}
 use Rattle.git_machine.specs.Signatures.{Signature}
-use Rattle.git_table.specs.Spokes.{spokes}
-use Rattle.git_table.proofs.Spokes.{spokes_has, told_caller}
+use Rattle.git_table_tests.specs.Spokes.{spokes}
+use Rattle.git_table_tests.proofs.Spokes.{spokes_has, told_caller}
 use Rattle.git_table_tests.proofs.table.offer.Goals as goal
 
 pub offer-requires-clause-leads : goal.offer-requires-clause-leads

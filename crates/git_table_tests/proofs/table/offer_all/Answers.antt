@@ -2,8 +2,8 @@ use Rattle.std.proofs.Common.{◌+◌, refl, sym, ap, ◌∙◌, subst, arith, t
 use Rattle.std.specs.List.{Contains}
 use Rattle.git_machine.specs.Signatures.{Signature}
 use Rattle.git_table.specs.Calls.{Sees}
-use Rattle.git_table.specs.Spokes.{spokes}
-use Rattle.git_table.proofs.Spokes.{spokes_has, spoke_of, told_caller, told_next, new_not_full, seen_not_full}
+use Rattle.git_table_tests.specs.Spokes.{spokes}
+use Rattle.git_table_tests.proofs.Spokes.{spokes_has, spoke_of, told_caller, told_next, new_not_full, seen_not_full}
 use Rattle.git_table_tests.proofs.table.offer_all.Goals as goal
 
 pub offer-requires-clause-leads : goal.offer-requires-clause-leads

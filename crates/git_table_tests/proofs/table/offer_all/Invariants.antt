@@ -1,6 +1,6 @@
 use Rattle.std.proofs.Common.{ℕ, ◌+◌, ◌<◌, [], ◌∷◌, true}
 use Rattle.git_table.specs.Calls.{Sees}
-use Rattle.git_table.specs.Spokes.{IsCaller}
+use Rattle.git_table_tests.specs.Spokes.{IsCaller}
 use Rattle.git_table_tests.proofs.table.offer_all.Given as goal
 
 abbrev pub invariant-loop-i : goal.invariant-loop-i

@@ -1,4 +1,4 @@
-use Rattle.git_table.specs.Spokes.{IsCaller}
+use Rattle.git_table_tests.specs.Spokes.{IsCaller}
 use Rattle.git_table_tests.proofs.table.run.Given as goal
 
 abbrev pub invariant-loop-by_first : goal.invariant-loop-by_first

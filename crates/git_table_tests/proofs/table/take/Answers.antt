@@ -1,6 +1,6 @@
 use Rattle.std.proofs.Common.{subst}
 use Rattle.git_table.specs.Calls.{TakeTells}
-use Rattle.git_table.proofs.Spokes.{take_read}
+use Rattle.git_table_tests.proofs.Spokes.{take_read}
 use Rattle.git_table_tests.proofs.table.take.Goals as goal
 
 pub returns-in-Work : goal.returns-in-Work

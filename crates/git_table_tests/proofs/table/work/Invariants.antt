@@ -1,4 +1,4 @@
-use Rattle.git_table.specs.Spokes.{IsCaller}
+use Rattle.git_table_tests.specs.Spokes.{IsCaller}
 use Rattle.git_table_tests.proofs.table.work.Given as goal
 
 abbrev pub invariant-loop-round : goal.invariant-loop-round

@@ -9,7 +9,7 @@ use Rattle.git_table.specs.Views.{FrontierView, SeatView}
 use Rattle.git_table.specs.declared.answers.Taken.TheVariants as taken
 use Rattle.git_table.specs.declared.answers.Hinted.TheVariants as hinted
 use Rattle.git_table.specs.Calls.{IsOf, Sees, OfferTells, TakeTells, HintTells}
-use Rattle.git_table.specs.Spokes.{spokes, IsCaller}
+use Rattle.git_table_tests.specs.Spokes.{spokes, IsCaller}
 
 pub spokes_long : (n : ℕ) → length (spokes n) ≡ n
 spokes_long zero = refl
