@@ -5,3 +5,4 @@ pub mod Views
 pub mod Calls
 pub mod Stacks
 pub mod Spokes
+pub mod Seats
