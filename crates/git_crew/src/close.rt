@@ -13,6 +13,7 @@ use crate::gate::Gate;
 use crate::join::join_all;
 use crate::member::{End, Member, work};
 use git_base::NoMemory;
+use git_limits::{SIGNATURES, WORDS, WORKERS};
 use git_machine::{CloseFault, Closed, Found, Sig, Successors};
 use git_share::Hints;
 use git_table::{Frontier, Seat};
@@ -31,8 +32,8 @@ fn members<G: Successors>(
 where
     G::Payload: Drop,
     requires seat { seat ≡ first_seat frontier.now }
-    requires cap { (frontier.now.cap ≡ cap) × (cap ≤ 65536) }
-    requires workers { (frontier.now.workers ≡ workers) × (0 < workers) × (workers ≤ 64) }
+    requires cap { (frontier.now.cap ≡ cap) × (cap ≤ SIGNATURES) }
+    requires workers { (frontier.now.workers ≡ workers) × (0 < workers) × (workers ≤ WORKERS) }
     ensures long { IfOk result (λ l. length l.items ≡ workers) }
     ensures members { IfOk result (λ l. All (IsMember G.next G.payload frontier.now 1) l.items) }
 {
@@ -194,7 +195,7 @@ fn explore<R: Threads + Wait + Sync, G: Successors + Send + Sync, T: Gate + Sync
 where
     G::Payload: Drop + Send,
     requires legal { G.legal graph.now first.now }
-    requires sizes { (0 < cap) × (cap ≤ 65536) × (0 < workers) × (workers ≤ 64) × ((cap + workers) * length first.now ≤ 2 ^ 24) }
+    requires sizes { (0 < cap) × (cap ≤ SIGNATURES) × (0 < workers) × (workers ≤ WORKERS) × ((cap + workers) * length first.now ≤ WORDS) }
     ensures reach { IfOk result (λ l. IsReach (G.next graph.now) first.now (signatures_of l.items)) }
     ensures payloads { IfOk result (λ l. All (λ f. G.payload graph.now f.sig f.payload) l.items) }
     ensures few { IfOk result (λ l. length l.items ≤ cap) }
@@ -230,9 +231,9 @@ where
     G::Payload: Drop + Send,
     requires legal { G.legal graph.now first.now }
     requires some { 1 ≤ cap }
-    requires few { cap ≤ 65536 }
-    requires workers { (1 ≤ workers) × (workers ≤ 64) }
-    requires room { (cap + workers) * length first.now ≤ 2 ^ 24 }
+    requires few { cap ≤ SIGNATURES }
+    requires workers { (1 ≤ workers) × (workers ≤ WORKERS) }
+    requires room { (cap + workers) * length first.now ≤ WORDS }
     ensures reach { IfOk result (λ c. IsReach (G.next graph.now) first.now (signatures_of c.found.items)) }
     ensures order { IfOk result (λ c. InOrder (signatures_of c.found.items)) }
     ensures payloads { IfOk result (λ c. All (λ f. G.payload graph.now f.sig f.payload) c.found.items) }

@@ -4,3 +4,4 @@ pub mod Listings
 pub mod Views
 pub mod Calls
 pub mod Stacks
+pub mod Seats

@@ -5,6 +5,7 @@ use mathlib.Core.Option.{some}
 use lib.ListN.{get_elem?}
 use Rattle.atomic_table.specs.Seated.{TableId, table_id_coded}
 use Rattle.atomic_table.specs.declared.shared.Seat.{Seat}
+use Rattle.git_limits.specs.declared.TheConstants.{WORKERS}
 use Rattle.git_machine.specs.Signatures.{Signature}
 use Rattle.git_visits.specs.declared.view.Key.{Key}
 use Rattle.git_visits.specs.declared.view.Known.{Known}
@@ -85,7 +86,7 @@ module _ {G : Type 0} where
     pub known : Known G
     pub is : raw.me.0 ≡ Held known
     pub bare : raw.me.1 ≡ []
-    pub few : count ≤ 64
+    pub few : count ≤ WORKERS
     pub stack : map (λ p. p.0) known.spares ≡ stacked spares count
     pub spares_fit : (k r : ℕ) (xs : Signature) → get_elem? known.spares k ≡ some (r, xs) → (length xs ≡ known.key.width) × (r < records known.key)
     pub rests : Rests known

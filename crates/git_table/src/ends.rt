@@ -10,11 +10,13 @@ ghost use Rattle.git_visits.specs.declared.view.Known.{Known};
 ghost use Rattle.git_visits.specs.declared.view.Post.TheVariants.{Held};
 ghost use Rattle.git_visits.specs.Cuttings.{kept_half, given_half, joined};
 ghost use Rattle.git_visits.specs.Lists.{cut, filled};
+ghost use Rattle.git_table.specs.Seats.{StaysSeat};
 
 use crate::steps::{TableSeat, bound_word};
 use crate::visited::Visited;
 use atomic_table::Closed;
 use git_base::NoMemory;
+use git_limits::WORKERS;
 use git_machine::{Sig, Successors};
 use git_visits::Halves;
 use std::alloc::Global;
@@ -115,7 +117,7 @@ impl<G: Successors> Visited<G> {
     pub fn split(&self, seat: &mut TableSeat<G>) -> TableSeat<G>
         requires own { seat.old.table_id ≡ self.now.table.shared.table_id }
         requires view { Holds seat.old (λ v. (1 < v.places) × (v.over ≡ 0)) }
-        ensures kept { (seat.new.table_id ≡ seat.old.table_id) × (seat.new.me.1 ≡ seat.old.me.1) × (seat.new.me.0 ≡ kept_half seat.old.me.0) }
+        ensures kept { StaysSeat seat.old seat.new × (seat.new.me.0 ≡ kept_half seat.old.me.0) }
         ensures given { (result.table_id ≡ seat.old.table_id) × (result.me.1 ≡ []) × (result.me.0 ≡ given_half seat.old.me.0) }
     {
         self.table.shared.split_seat::<Halves>(seat)
@@ -124,7 +126,7 @@ impl<G: Successors> Visited<G> {
     pub fn join(&self, seat: &mut TableSeat<G>, other: TableSeat<G>)
         requires own { (seat.old.table_id ≡ self.now.table.shared.table_id) × (other.table_id ≡ self.now.table.shared.table_id) × (other.me.1 ≡ []) }
         requires view { Holds seat.old (λ v. (v.over ≡ 0) × ((v.work.hand ≡ None) × (v.work.owes ≡ 0))) × Holds other (λ v. (v.over ≡ 0) × ((v.work.hand ≡ None) × (v.work.owes ≡ 0))) }
-        ensures { (seat.new.table_id ≡ seat.old.table_id) × (seat.new.me.1 ≡ seat.old.me.1) × (seat.new.me.0 ≡ joined seat.old.me.0 other.me.0) }
+        ensures { StaysSeat seat.old seat.new × (seat.new.me.0 ≡ joined seat.old.me.0 other.me.0) }
     {
         self.table.shared.join_seat::<Halves>(seat, other)
     }
@@ -133,8 +135,8 @@ impl<G: Successors> Visited<G> {
     pub fn bound(&self, seat: &mut TableSeat<G>)
         requires own { seat.old.table_id ≡ self.now.table.shared.table_id }
         requires view { Holds seat.old (λ v. Unit {0}) }
-        ensures own { (seat.new.table_id ≡ seat.old.table_id) × (seat.new.me.1 ≡ seat.old.me.1) }
-        ensures told { (v : Known G) → seat.old.me.0 ≡ Held v → (seat.new.me.0 ≡ Held v) × (v.places ≤ 64) × (length v.spares ≤ v.places) }
+        ensures own { StaysSeat seat.old seat.new }
+        ensures told { (v : Known G) → seat.old.me.0 ≡ Held v → (seat.new.me.0 ≡ Held v) × (v.places ≤ WORKERS) × (length v.spares ≤ v.places) }
     {
         bound_word(&self.table.shared, seat);
     }

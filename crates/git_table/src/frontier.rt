@@ -9,6 +9,7 @@ use crate::seat::{Seat, hinted_hand, taken_hand};
 use crate::stack::{behind, front, pile, put};
 use crate::visited::Visited;
 use git_base::NoMemory;
+use git_limits::{SIGNATURES, WORDS, WORKERS};
 use git_machine::{Sig, Successors};
 use std::alloc::Global;
 use std::marker::Model;
@@ -44,14 +45,14 @@ impl<G: Successors> Frontier<G> {
         first: &Sig,
     ) -> Result<(Frontier<G>, Seat<G>), NoMemory>
         requires legal { G.legal graph.now first.now }
-        requires sizes { (0 < cap) × (cap ≤ 65536) × (0 < workers) × (workers ≤ 64) × ((cap + workers) * length first.now ≤ 2 ^ 24) }
+        requires sizes { (0 < cap) × (cap ≤ SIGNATURES) × (0 < workers) × (workers ≤ WORKERS) × ((cap + workers) * length first.now ≤ WORDS) }
         ensures frontier { IfOk result (λ f. (f.0.graph ≡ graph.now) × (f.0.first ≡ first.now) × (f.0.cap ≡ cap) × (f.0.workers ≡ workers)) }
         ensures seat { IfOk result (λ f. f.1 ≡ first_seat f.0) }
     {
         let (visited, raw) = Visited::new(alloc, graph, cap, workers, first)?;
         let seat = Seat {
             raw,
-            spares: [0; 64],
+            spares: [0; WORKERS],
             count: 0,
             hand: None,
         };
@@ -73,7 +74,7 @@ impl<G: Successors> Frontier<G> {
             hand,
         } = seat;
         let other = self.visited.split(&mut raw);
-        let mut given = [0; 64];
+        let mut given = [0; WORKERS];
         let one = put(&mut given, 0, front(&spares, count));
         let seat = Seat {
             raw,

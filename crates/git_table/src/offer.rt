@@ -7,6 +7,7 @@ ghost use Rattle.git_visits.specs.Seats.{with_look, with_seen, Holds, Extends, L
 ghost use Rattle.git_table.specs.Offers.{TurnSays, OfferSays};
 ghost use Rattle.git_visits.specs.declared.view.Known.{Known};
 ghost use Rattle.git_visits.specs.declared.view.Post.TheVariants.{Held};
+ghost use Rattle.git_table.specs.Seats.{StaysSeat};
 
 use crate::answers::{Offer, Turn};
 use crate::start::home;
@@ -22,7 +23,7 @@ impl<G: Successors> Visited<G> {
         requires own { seat.old.table_id ≡ self.now.table.shared.table_id }
         requires inside { (number < self.now.records) × (length sig.now ≡ self.now.width) }
         requires view { Holds seat.old (λ v. (xs : Signature) × (v.key ≡ self.now.table.shared.key) × (length xs ≡ v.key.width) × (v.spares ≡ (number, xs) ∷ tail_of v.spares)) }
-        ensures own { (seat.new.table_id ≡ seat.old.table_id) × (seat.new.me.1 ≡ seat.old.me.1) }
+        ensures own { StaysSeat seat.old seat.new }
         ensures told { (v : Known G) → seat.old.me.0 ≡ Held v → Holds seat.new (λ w. Extends v w × (w.spares ≡ (number, sig.now) ∷ tail_of v.spares)) }
     {
         let start = 1 + self.hashes + number * self.width;
@@ -36,7 +37,7 @@ impl<G: Successors> Visited<G> {
         requires own { seat.old.table_id ≡ self.now.table.shared.table_id }
         requires inside { length sig.now ≡ self.now.width }
         requires view { Holds seat.old (λ v. (v.key ≡ self.now.table.shared.key) × (v.spares ≡ []) × (v.over ≡ 0)) }
-        ensures own { (seat.new.table_id ≡ seat.old.table_id) × (seat.new.me.1 ≡ seat.old.me.1) }
+        ensures own { StaysSeat seat.old seat.new }
         ensures told { (v : Known G) → seat.old.me.0 ≡ Held v → MatchOption result (Holds seat.new (λ w. DrewOver v w × (v.spares ≡ []))) (λ n. (n < records v.key) × Holds seat.new (λ w. Extends v w × (w.spares ≡ (n, sig.now) ∷ tail_of v.spares))) }
     {
         let number = draw(&self.table.shared, seat);
@@ -53,7 +54,7 @@ impl<G: Successors> Visited<G> {
         requires own { seat.old.table_id ≡ self.now.table.shared.table_id }
         requires inside { (hash < self.now.hashes) × (number < self.now.records) }
         requires view { Holds seat.old (λ v. (v.key ≡ self.now.table.shared.key) × ((xs : Signature) × MayPublish G.next v hash number xs (tail_of v.spares))) }
-        ensures own { (seat.new.table_id ≡ seat.old.table_id) × (seat.new.me.1 ≡ seat.old.me.1) }
+        ensures own { StaysSeat seat.old seat.new }
         ensures hit { (v : Known G) (xs : Signature) → seat.old.me.0 ≡ Held v → v.spares ≡ (number, xs) ∷ tail_of v.spares → result ≡ 0 → Holds seat.new (λ w. Extends (with_look (with_seen v number xs) (hash_at v.key hash) 0) w × (w.spares ≡ tail_of v.spares)) }
         ensures miss { (v : Known G) (xs : Signature) → seat.old.me.0 ≡ Held v → v.spares ≡ (number, xs) ∷ tail_of v.spares → result ≢ 0 → Holds seat.new (λ w. Extends v w × (w.spares ≡ v.spares) × HasNote w (hash_at v.key hash) result × (result ≤ records v.key)) }
     {
@@ -70,7 +71,7 @@ impl<G: Successors> Visited<G> {
         requires own { seat.old.table_id ≡ self.now.table.shared.table_id }
         requires inside { number < self.now.records }
         requires view { Holds seat.old (λ v. (v.key ≡ self.now.table.shared.key) × (v.work.fresh ≡ Some number) × (v.work.counted ≡ 0)) }
-        ensures own { (seat.new.table_id ≡ seat.old.table_id) × (seat.new.me.1 ≡ seat.old.me.1) }
+        ensures own { StaysSeat seat.old seat.new }
         ensures told { (v : Known G) → seat.old.me.0 ≡ Held v → seat.new.me.0 ≡ Held (record v { work = record v.work { fresh = None; counted = 0 } }) }
     {
         let live = self.states + self.records;
@@ -83,7 +84,7 @@ impl<G: Successors> Visited<G> {
         requires own { seat.old.table_id ≡ self.now.table.shared.table_id }
         requires inside { length sig.now ≡ self.now.width }
         requires view { Holds seat.old (λ v. (v.key ≡ self.now.table.shared.key) × (v.over ≡ 0) × SpareIs v spare sig.now) }
-        ensures own { (seat.new.table_id ≡ seat.old.table_id) × (seat.new.me.1 ≡ seat.old.me.1) }
+        ensures own { StaysSeat seat.old seat.new }
         ensures told { (v : Known G) → seat.old.me.0 ≡ Held v → MatchOption result (Holds seat.new (λ w. DrewOver v w × (v.spares ≡ []))) (λ n. (n < records v.key) × Holds seat.new (λ w. Extends v w × (w.spares ≡ (n, sig.now) ∷ tail_of v.spares))) }
     {
         match spare {
@@ -97,7 +98,7 @@ impl<G: Successors> Visited<G> {
         requires own { seat.old.table_id ≡ self.now.table.shared.table_id }
         requires inside { (length sig.now ≡ self.now.width) × (k < self.now.hashes) }
         requires view { Holds seat.old (λ v. (v.key ≡ self.now.table.shared.key) × Rests v × SpareIs v spare sig.now × Tried v sig.now k × Led G.next v sig.now) }
-        ensures own { (seat.new.table_id ≡ seat.old.table_id) × (seat.new.me.1 ≡ seat.old.me.1) }
+        ensures own { StaysSeat seat.old seat.new }
         ensures told { (v : Known G) → seat.old.me.0 ≡ Held v → Holds seat.new (λ w. TurnSays v w sig.now k result) }
     {
         let hash = (home(sig, self.hashes) + k) % self.hashes;
@@ -120,7 +121,7 @@ impl<G: Successors> Visited<G> {
         requires own { seat.old.table_id ≡ self.now.table.shared.table_id }
         requires sig { length sig.now ≡ self.now.width }
         requires view { Holds seat.old (λ v. (v.key ≡ self.now.table.shared.key) × SpareHeld v spare) }
-        ensures own { (seat.new.table_id ≡ seat.old.table_id) × (seat.new.me.1 ≡ seat.old.me.1) }
+        ensures own { StaysSeat seat.old seat.new }
         ensures told { (v : Known G) → seat.old.me.0 ≡ Held v → Holds seat.new (λ w. Extends v w × SpareIs w spare sig.now × (tail_of w.spares ≡ tail_of v.spares)) }
     {
         match spare {
@@ -139,7 +140,7 @@ impl<G: Successors> Visited<G> {
         requires own { seat.old.table_id ≡ self.now.table.shared.table_id }
         requires sig { length sig.now ≡ self.now.width }
         requires view { Holds seat.old (λ v. (v.key ≡ self.now.table.shared.key) × Rests v × SpareHeld v spare × Led G.next v sig.now) }
-        ensures own { (seat.new.table_id ≡ seat.old.table_id) × (seat.new.me.1 ≡ seat.old.me.1) }
+        ensures own { StaysSeat seat.old seat.new }
         ensures told { (v : Known G) → seat.old.me.0 ≡ Held v → Holds seat.new (λ w. OfferSays v w sig.now result.0 × SpareLeft v w result.1) }
     {
         self.refill(seat, spare, sig);

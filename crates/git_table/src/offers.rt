@@ -7,6 +7,7 @@ ghost use Rattle.git_visits.specs.Visits.{word_count, records, hash_at, record_a
 ghost use Rattle.git_visits.specs.declared.view.Known.{Known};
 ghost use Rattle.git_visits.specs.declared.view.Post.TheVariants.{Held};
 ghost use Rattle.git_visits.specs.Seats.{with_seen, Holds, ShowsPublished, Agrees, Extends};
+ghost use Rattle.git_table.specs.Seats.{StaysSeat};
 
 use crate::steps::{TableSeat, meet_word, note_word, probe_word};
 use crate::visited::Visited;
@@ -25,7 +26,7 @@ impl<G: Successors> Visited<G> {
         requires own { seat.old.table_id ≡ self.now.table.shared.table_id }
         requires inside { hash < self.now.hashes }
         requires view { Holds seat.old (λ v. v.key ≡ self.now.table.shared.key) }
-        ensures own { (seat.new.table_id ≡ seat.old.table_id) × (seat.new.me.1 ≡ seat.old.me.1) }
+        ensures own { StaysSeat seat.old seat.new }
         ensures told { (v : Known G) → seat.old.me.0 ≡ Held v → Holds seat.new (λ w. Extends v w × (w.spares ≡ v.spares) × (result ≢ 0 → HasNote w (hash_at v.key hash) result × (result ≤ records v.key))) }
     {
         probe_word(&self.table.shared, seat, hash)
@@ -37,7 +38,7 @@ impl<G: Successors> Visited<G> {
         requires inside { q < self.now.records }
         requires sig { length sig.now ≡ self.now.width }
         requires view { Holds seat.old (λ v. (v.key ≡ self.now.table.shared.key) × ShowsPublished v q) }
-        ensures own { (seat.new.table_id ≡ seat.old.table_id) × (seat.new.me.1 ≡ seat.old.me.1) }
+        ensures own { StaysSeat seat.old seat.new }
         ensures told { (v : Known G) → seat.old.me.0 ≡ Held v → Holds seat.new (λ w. (w.spares ≡ v.spares) × MatchBool result (Extends (with_seen v q sig.now) w) (Extends v w × RecordDiffers w q sig.now)) }
     {
         let start = 1 + self.hashes + q * self.width;
@@ -55,7 +56,7 @@ impl<G: Successors> Visited<G> {
         requires own { seat.old.table_id ≡ self.now.table.shared.table_id }
         requires inside { (q < self.now.records) × (length out.old ≡ self.now.width) }
         requires view { Holds seat.old (λ v. (v.key ≡ self.now.table.shared.key) × ShowsPublished v q) }
-        ensures own { (seat.new.table_id ≡ seat.old.table_id) × (seat.new.me.1 ≡ seat.old.me.1) }
+        ensures own { StaysSeat seat.old seat.new }
         ensures long { length out.new ≡ self.now.width }
         ensures told { (v : Known G) → seat.old.me.0 ≡ Held v → Holds seat.new (λ w. Extends (with_seen v q out.new) w × (w.spares ≡ v.spares) × Reached (G.next v.key.graph.value) v.key.first.value out.new) }
     {

@@ -4,6 +4,7 @@ ghost use Rattle.git_table.specs.Stacks.{hand_taken, hand_hinted};
 
 use crate::answers::{Hinted, Taken};
 use crate::steps::TableSeat;
+use git_limits::WORKERS;
 use git_machine::Successors;
 use std::marker::Model;
 
@@ -12,7 +13,7 @@ use std::marker::Model;
 #[derive(Drop)]
 pub struct Seat<G: Successors> {
     pub(crate) raw: TableSeat<G>,
-    pub(crate) spares: [u64; 64],
+    pub(crate) spares: [u64; WORKERS],
     pub(crate) count: usize,
     pub(crate) hand: Option<u32>,
 }

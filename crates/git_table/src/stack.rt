@@ -3,9 +3,11 @@ ghost use Rattle.std.specs.Prelude.{◌≡◌, ◌+◌, ◌-◌, ◌<◌, ◌≤
 ghost use Rattle.git_table.specs.Views.{stacked};
 ghost use Rattle.git_table.specs.Stacks.{option_list, front_number};
 
+use git_limits::WORKERS;
+
 /// The front one.
-pub fn front(spares: &[u64; 64], count: usize) -> Option<u64>
-    requires { count ≤ 64 }
+pub fn front(spares: &[u64; WORKERS], count: usize) -> Option<u64>
+    requires { count ≤ WORKERS }
     ensures { result ≡ front_number (stacked spares.now count) }
 {
     if count == 0 {
@@ -25,9 +27,9 @@ pub fn behind(count: usize) -> usize
 }
 
 /// Puts one in front, if there is one, and gives how many there are then.
-pub fn put(spares: &mut [u64; 64], count: usize, spare: Option<u64>) -> usize
-    requires { count < 64 }
-    ensures few { result ≤ 64 }
+pub fn put(spares: &mut [u64; WORKERS], count: usize, spare: Option<u64>) -> usize
+    requires { count < WORKERS }
+    ensures few { result ≤ WORKERS }
     ensures stack { stacked spares.new result ≡ option_list spare ++ stacked spares.old count }
 {
     match spare {
@@ -40,8 +42,8 @@ pub fn put(spares: &mut [u64; 64], count: usize, spare: Option<u64>) -> usize
 }
 
 /// Puts the first `more` of `top` in front, in their order.
-pub fn pile(spares: &mut [u64; 64], count: usize, top: &[u64; 64], more: usize)
-    requires { count + more ≤ 64 }
+pub fn pile(spares: &mut [u64; WORKERS], count: usize, top: &[u64; WORKERS], more: usize)
+    requires { count + more ≤ WORKERS }
     ensures { stacked spares.new (count + more) ≡ stacked top.now more ++ stacked spares.old count }
 {
     for i in 0..more {

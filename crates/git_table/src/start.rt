@@ -9,6 +9,7 @@ use crate::steps::TableSeat;
 use crate::visited::Visited;
 use atomic_table::Table;
 use git_base::NoMemory;
+use git_limits::{SIGNATURES, WORDS, WORKERS};
 use git_machine::{Sig, Successors};
 use git_visits::Key;
 use std::alloc::Global;
@@ -34,7 +35,7 @@ fn front_words(
     width: usize,
     hashes: usize,
 ) -> Result<Vec<u64>, NoMemory>
-    requires { (length first.now ≡ width) × (0 < records) × (records < hashes) × (hashes < 2 ^ 20) × (records * width ≤ 2 ^ 24) }
+    requires { (length first.now ≡ width) × (0 < records) × (records < hashes) × (hashes < 2 ^ 20) × (records * width ≤ WORDS) }
     ensures { IfOk result (λ v. (length v.items ≡ 1 + hashes + records * width) × Front v.items first.now records width hashes) }
 {
     let mut words = Vec::with_capacity(alloc, 1 + hashes + records * width + records + 2)?;
@@ -59,7 +60,7 @@ fn opening_words(
     width: usize,
     hashes: usize,
 ) -> Result<Vec<u64>, NoMemory>
-    requires { (length first.now ≡ width) × (0 < records) × (records < hashes) × (hashes < 2 ^ 20) × (records * width ≤ 2 ^ 24) }
+    requires { (length first.now ≡ width) × (0 < records) × (records < hashes) × (hashes < 2 ^ 20) × (records * width ≤ WORDS) }
     ensures { IfOk result (λ v. Opens v.items first.now records width hashes) }
 {
     let mut words = front_words(alloc, first, records, width, hashes)?;
@@ -81,7 +82,7 @@ impl<G: Successors> Visited<G> {
         first: &Sig,
     ) -> Result<(Visited<G>, TableSeat<G>), NoMemory>
         requires legal { G.legal graph.now first.now }
-        requires sizes { (0 < cap) × (cap ≤ 65536) × (0 < workers) × (workers ≤ 64) × ((cap + workers) * length first.now ≤ 2 ^ 24) }
+        requires sizes { (0 < cap) × (cap ≤ SIGNATURES) × (0 < workers) × (workers ≤ WORKERS) × ((cap + workers) * length first.now ≤ WORDS) }
         ensures own { IfOk result (λ f. (f.1.table_id ≡ f.0.table.shared.table_id) × (f.1.me.1 ≡ [])) }
         ensures view { IfOk result (λ f. f.1.me.0 ≡ Held (opening_view f.0.table.shared.key)) }
         ensures fits { IfOk result (λ f. IsKey f.0.table.shared.key) }

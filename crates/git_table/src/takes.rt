@@ -7,6 +7,7 @@ ghost use Rattle.git_visits.specs.Seats.{Holds, Rests};
 ghost use Rattle.git_table.specs.Takes.{HintSays, StopSays, TakeSays};
 ghost use Rattle.git_visits.specs.declared.view.Known.{Known};
 ghost use Rattle.git_visits.specs.declared.view.Post.TheVariants.{Held};
+ghost use Rattle.git_table.specs.Seats.{StaysSeat};
 
 use crate::answers::{Hinted, Taken};
 use crate::steps::{
@@ -30,7 +31,7 @@ impl<G: Successors> Visited<G> {
         requires own { seat.old.table_id ≡ self.now.table.shared.table_id }
         requires inside { id < self.now.records }
         requires view { Holds seat.old (λ v. (v.key ≡ self.now.table.shared.key) × (v.work.hand ≡ None) × (v.work.owes ≡ 0)) }
-        ensures own { (seat.new.table_id ≡ seat.old.table_id) × (seat.new.me.1 ≡ seat.old.me.1) }
+        ensures own { StaysSeat seat.old seat.new }
         ensures told { (v : Known G) → seat.old.me.0 ≡ Held v → HintSays v seat.new.me.0 id result }
     {
         let found = take_word(&self.table.shared, seat, self.states + id as usize);
@@ -44,7 +45,7 @@ impl<G: Successors> Visited<G> {
     pub fn stopped(&self, seat: &mut TableSeat<G>) -> bool
         requires own { seat.old.table_id ≡ self.now.table.shared.table_id }
         requires view { Holds seat.old (λ v. v.key ≡ self.now.table.shared.key) }
-        ensures own { (seat.new.table_id ≡ seat.old.table_id) × (seat.new.me.1 ≡ seat.old.me.1) }
+        ensures own { StaysSeat seat.old seat.new }
         ensures told { (v : Known G) → seat.old.me.0 ≡ Held v → StopSays v seat.new.me.0 result }
     {
         let last = self.states + self.records;
@@ -55,7 +56,7 @@ impl<G: Successors> Visited<G> {
     pub fn take(&self, seat: &mut TableSeat<G>) -> Taken
         requires own { seat.old.table_id ≡ self.now.table.shared.table_id }
         requires view { Holds seat.old (λ v. (v.key ≡ self.now.table.shared.key) × (v.work.hand ≡ None) × (v.work.owes ≡ 0)) }
-        ensures own { (seat.new.table_id ≡ seat.old.table_id) × (seat.new.me.1 ≡ seat.old.me.1) }
+        ensures own { StaysSeat seat.old seat.new }
         ensures told { (v : Known G) → seat.old.me.0 ≡ Held v → TakeSays v seat.new.me.0 result }
     {
         let last = self.states + self.records;
@@ -81,7 +82,7 @@ impl<G: Successors> Visited<G> {
         requires own { seat.old.table_id ≡ self.now.table.shared.table_id }
         requires inside { id < self.now.records }
         requires view { Holds seat.old (λ v. (v.key ≡ self.now.table.shared.key) × Rests v × (v.work.hand ≡ Some id) × ((x : Signature) × HasSeen v id x × ((t : Signature) → LeadsTo (G.next v.key.graph.value) x t → (q : ℕ) × HasSeen v q t))) }
-        ensures own { (seat.new.table_id ≡ seat.old.table_id) × (seat.new.me.1 ≡ seat.old.me.1) }
+        ensures own { StaysSeat seat.old seat.new }
         ensures told { (v : Known G) → seat.old.me.0 ≡ Held v → seat.new.me.0 ≡ Held (record v { work = record v.work { hand = None; owes = 0; mine = id ∷ v.work.mine } }) }
     {
         finish_word(&self.table.shared, seat, self.states + id as usize);
@@ -93,7 +94,7 @@ impl<G: Successors> Visited<G> {
     pub fn halt(&self, seat: &mut TableSeat<G>)
         requires own { seat.old.table_id ≡ self.now.table.shared.table_id }
         requires view { Holds seat.old (λ v. v.key ≡ self.now.table.shared.key) }
-        ensures own { (seat.new.table_id ≡ seat.old.table_id) × (seat.new.me.1 ≡ seat.old.me.1) }
+        ensures own { StaysSeat seat.old seat.new }
         ensures told { (v : Known G) → seat.old.me.0 ≡ Held v → seat.new.me.0 ≡ Held (record v { work = record v.work { halted = 1 } }) }
     {
         let last = self.states + self.records;

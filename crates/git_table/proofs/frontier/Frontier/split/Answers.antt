@@ -9,7 +9,7 @@ split-other-requires-clause-view g c = let i = c.seat.invariant in (i.known, i.i
 pub invariant_of-seat : goal.invariant_of-seat
 invariant_of-seat g c =
     let k = c.split-other.ensures.kept in
-    subst (λ (n : ℕ). IsSeat g.G.Successors.legal c.split-other.new.seat c.seat.inside.spares n c.seat.inside.hand) (sym c.behind.ensures) (kept_seat c.seat.invariant c.split-other.new.seat k.1 k.2)
+    subst (λ (n : ℕ). IsSeat g.G.Successors.legal c.split-other.new.seat c.seat.inside.spares n c.seat.inside.hand) (sym c.behind.ensures) (kept_seat c.seat.invariant c.split-other.new.seat k.0.1 k.1)
 
 pub invariant_of-other : goal.invariant_of-other
 invariant_of-other g c = let k = c.split-other.ensures.given in given_seat c.seat.invariant c.split-other.result k.1 k.2 c.front.result c.front.ensures c.put-one.new.spares c.put-one.result c.put-one.ensures.few c.put-one.ensures.stack
