@@ -18,7 +18,7 @@ use Rattle.git_orbit.specs.Orbits.{Fan}
 use Rattle.git_orbit.specs.Signatures.{InChamber, IsHolding}
 use Rattle.git_orbit.proofs.Signatures.{one_holding}
 use Rattle.git_listing.specs.Listings.{Chamber, normals_of}
-use Rattle.git_chamber.specs.Chambers.{AreWalls, IsCell, IsMark, IsNarrow, IsNumbers, IsWideSignature}
+use Rattle.git_chamber.specs.Chambers.{AreWalls, IsCell, IsMark, IsNarrow, IsWideSignature}
 use Rattle.git_chamber.specs.Views.{FanChamber}
 use Rattle.git_chamber.specs.declared.cell.Cell.TheVariants.{Good}
 use Rattle.git_chamber.proofs.Cells.{one_walls}
@@ -44,9 +44,6 @@ rank_tells k n vs h is = (
 pub never_narrow : (fan : Fan) (sig : Signature) (walls : List Vector) → AreWalls fan sig walls → NeverWide fan.k walls → IsNarrow fan sig
 never_narrow fan sig walls are never at w =
     wide_not_never fan.k walls at.stage at.what (subst (λ (vs : List Vector). IsWideAt fan.k vs at.stage at.what) (one_walls fan sig w.walls walls w.are are) w.wide) never
-
-pub numbers_of_holding : (fan : Fan) (vs : List Vector) (sig : Signature) → IsHolding fan vs sig → (n : ℕ) × Has sig n → IsNumbers fan sig
-numbers_of_holding fan vs sig h m = record { width = h.width; in_range = λ i has. ((h.each i).0 has).0; member = m.0; has_member = m.1 }
 
 -- ---- the reasons
 module _ (fan : Fan) (c : Chamber) where
