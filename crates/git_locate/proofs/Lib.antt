@@ -1,0 +1,4 @@
+pub mod Numbers
+pub mod Sides
+pub mod Listed
+pub mod Gathered
