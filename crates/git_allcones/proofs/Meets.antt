@@ -1,27 +1,19 @@
 -- The test for a common face, by rays and facets.
-use Rattle.std.proofs.Common.{◌≡◌, ◌∙◌, ◌++◌, ◌∷◌, ◌↔◌, ◌<◌, ◌+◌, [], All, Contains, List, arith, get_or, inl, inr, length, refl, subst, sym, take, ℕ}
-use Rattle.std.proofs.Math.IntN.{pos}
+use Rattle.std.proofs.Common.{◌≡◌, ◌∙◌, ◌++◌, ◌∷◌, ◌↔◌, ◌<◌, ◌+◌, [], All, Contains, List, get_or, inl, inr, length, subst, sym, take, ℕ}
 use Rattle.std.proofs.lemmas.List.{take_more}
 use Rattle.std.proofs.lemmas.List.Elements.{Contains-append_left, Contains-push, Contains-push_cases}
-use Rattle.git_defs.specs.Cones.{AreRays, Cut, InCone, SameSet}
-use Rattle.git_defs.specs.Vectors.{HasRank, Vector, dot}
+use Rattle.git_defs.specs.Cones.{AreRays, Cut, InCone}
+use Rattle.git_defs.specs.Vectors.{HasRank, Vector}
 use Rattle.git_defs.proofs.Linear.{dot-comm}
-use Rattle.git_lemmas.specs.Members.{Member}
 use Rattle.git_lemmas.proofs.Members.{all_member, as_member, contained, contains_member, member_all}
 use Rattle.git_geometry.proofs.Independence.{chosen_member}
-use Rattle.git_geometry.proofs.Lists.{member_either, member_left}
+use Rattle.git_geometry.proofs.Lists.{member_left}
 use Rattle.git_geometry.proofs.Rays.{rays_along, same_back}
 use Rattle.git_stages.specs.Short.{IsShort}
 use Rattle.git_cone_faces.specs.Faces.{InBoth, IsFace, IsFullCone, MeetInFaces}
 use Rattle.git_cone_faces.proofs.Full.{full_same}
 use Rattle.git_cone_faces.proofs.Meetings.{both_cut, both_turned, common_face, face_along, level_exactly}
 use Rattle.git_allcones.specs.Meets.{AreLevel, IsLevelOn}
-
-pub joined_short : (k : ℕ) (A B : List Vector) → All (IsShort k) A → All (IsShort k) B → All (IsShort k) (A ++ B)
-joined_short k A B a b = member_all (IsShort k) (A ++ B) (λ x m. elim (member_either x A B m) [
-  | inl l ↦ all_member (IsShort k) x A a l
-  | inr r ↦ all_member (IsShort k) x B b r
-])
 
 pub joined_rank : (k : ℕ) (A B : List Vector) → HasRank k A → HasRank k (A ++ B)
 joined_rank k A B rank = record {
@@ -33,9 +25,6 @@ joined_rank k A B rank = record {
 }
 
 -- ---- the level facets, as the loop comes
-pub level_none : (vs : List Vector) → AreLevel [] vs []
-level_none vs = record { from = λ n c. c; level = λ n c. absurd (as_member [] c); back = λ n c l. c }
-
 level_push : (front vs out : List Vector) (n : Vector) → AreLevel front vs out → IsLevelOn n vs → AreLevel (front ++ n ∷ []) vs (out ++ n ∷ [])
 level_push front vs out n t on = record {
   from = λ m c. elim (Contains-push_cases out n m c) [

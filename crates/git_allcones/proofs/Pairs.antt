@@ -1,19 +1,19 @@
 -- The cones of listings by their places, and pairs of them.
-use Rattle.std.proofs.Common.{◌≡◌, ◌∙◌, ◌++◌, ◌+◌, ◌<◌, ◌≤◌, ◌∷◌, ◌⊎◌, [], All, Contains, List, ap, arith, get_or, inl, inr, length, map, refl, subst, suc, sym, take, zero, ℕ}
+use Rattle.std.proofs.Common.{◌≡◌, ◌∙◌, ◌++◌, ◌+◌, ◌<◌, ◌≤◌, ◌∷◌, [], All, List, ap, arith, get_or, inl, inr, length, map, refl, subst, suc, sym, take, ℕ}
 use Rattle.std.proofs.Math.IntN.{pos}
 use Rattle.std.proofs.lemmas.Bool.{cases_lt}
 use Rattle.std.proofs.lemmas.Int.{ints}
 use Rattle.std.proofs.lemmas.List.{get_or-map, length-map, map-append, take_more}
 use Rattle.std.proofs.lemmas.List.Elements.{All-get_or}
-use Rattle.git_defs.specs.Cones.{Dual, InCone}
+use Rattle.git_defs.specs.Cones.{InCone}
 use Rattle.git_defs.specs.Vectors.{Vector, dot, zero_vector}
 use Rattle.git_defs.proofs.Linear.{dot-comm, dot-zero, length-zero}
 use Rattle.git_lemmas.specs.Members.{Member}
 use Rattle.git_lemmas.proofs.Members.{contains_member}
-use Rattle.git_cone_faces.specs.Faces.{InBoth, IsFace, MeetInFaces, OnFace}
+use Rattle.git_cone_faces.specs.Faces.{InBoth, IsFace, MeetInFaces}
 use Rattle.git_cone_faces.specs.Families.{Cone, FormFan}
 use Rattle.git_cone_faces.proofs.Meetings.{both_turned, face_along}
-use Rattle.git_listing.specs.Listings.{Chamber, Facet}
+use Rattle.git_listing.specs.Listings.{Facet}
 use Rattle.git_listing.specs.Views.{chamber_of, facet_of}
 use Rattle.git_listing.specs.declared.listing.ListedChamber.{ListedChamber}
 use Rattle.git_listing.specs.declared.listing.ListedFacet.{ListedFacet}
@@ -99,26 +99,6 @@ forms_fan k cones fine C D c d =
     subst (λ (E : Cone). PairMeets k C E) q.is (subst (λ (E : Cone). PairMeets k E (cone_at cones q.place)) p.is there)
 
 -- ---- one place more
-pub last_or : (b j : ℕ) → b < j + 1 → (b < j) ⊎ (b ≡ j)
-last_or b j h = elim (cases_lt b j) [ inl less ↦ inl less | inr more ↦ inr (omega (arith, h, more)) ]
-
-pub row_more : (k : ℕ) (cones : List Cone) (i j : ℕ) → ((b : ℕ) → i < b → b < j → PairIsFine k (cone_at cones i) (cone_at cones b))
-    → PairIsFine k (cone_at cones i) (cone_at cones j) → (b : ℕ) → i < b → b < j + 1 → PairIsFine k (cone_at cones i) (cone_at cones b)
-row_more k cones i j before here b p q = elim (last_or b j q) [
-  | inl less ↦ before b p less
-  | inr same ↦ subst (λ (n : ℕ). PairIsFine k (cone_at cones i) (cone_at cones n)) (sym same) here
-]
-
-pub rows_more : (k : ℕ) (cones : List Cone) (i : ℕ) → AreFineBefore k cones i 0
-    → ((b : ℕ) → i < b → b < length cones → PairIsFine k (cone_at cones i) (cone_at cones b)) → AreFineBefore k cones (i + 1) 0
-rows_more k cones i before here a b p q e = elim e [
-  | inl less ↦ elim (last_or a i less) [
-    | inl earlier ↦ before a b p q (inl earlier)
-    | inr same ↦ subst (λ (n : ℕ). PairIsFine k (cone_at cones n) (cone_at cones b)) (sym same) (here b (omega (arith, p, same)) q)
-  ]
-  | inr none ↦ let h = none.1 in absurd (omega (arith, h))
-]
-
 -- the pairs before one, by rows
 pub before_in_row : (k : ℕ) (cones : List Cone) (i j : ℕ) → AreFineBefore k cones i 0
     → ((b : ℕ) → i < b → b < j → PairIsFine k (cone_at cones i) (cone_at cones b)) → AreFineBefore k cones i j

@@ -1,5 +1,5 @@
 -- The cones of a listing.
-use Rattle.std.specs.Prelude.{ℕ, ◌≤◌, List, [], length, map, get_or, All}
+use Rattle.std.specs.Prelude.{ℕ, ◌≤◌, List, [], map, get_or, All}
 use Rattle.git_defs.specs.Vectors.{Vector}
 use Rattle.git_stages.specs.Short.{IsShort}
 use Rattle.git_cone_faces.specs.Faces.{IsFullCone}

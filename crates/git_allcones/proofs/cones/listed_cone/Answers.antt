@@ -1,6 +1,4 @@
-use Rattle.std.proofs.Common.{◌≡◌, ◌∙◌, List, ap, map}
-use Rattle.git_defs.specs.Vectors.{Vector}
-use Rattle.git_cone_faces.specs.Families.{Cone}
+use Rattle.std.proofs.Common.{◌≡◌, ◌∙◌, ap, map}
 use Rattle.git_listing.specs.Listings.{normals_of}
 use Rattle.git_listing.specs.Views.{chamber_of}
 use Rattle.git_allcones.specs.Cones.{normal_of}

@@ -1,4 +1,4 @@
-use Rattle.std.proofs.Common.{◌≡◌, List, sym, ◌∙◌, subst, arith, inl, inr, refl}
+use Rattle.std.proofs.Common.{List, sym, ◌∙◌, subst, arith, inl, inr, refl}
 use Rattle.std.proofs.lemmas.List.{take_all}
 use Rattle.git_defs.specs.Cones.{Cut}
 use Rattle.git_defs.specs.Vectors.{Vector}
