@@ -25,14 +25,13 @@ use Rattle.git_replies.specs.Counts.{counts_text}
 use Rattle.git_answers.specs.declared.output.Output.{Output}
 use Rattle.git_answers.specs.declared.output.Output.TheVariants.{Plain, Certified, Counted}
 
--- the numbers that come with the words, and what is to be written
+-- the numbers that come with the words
 pub record Options : Type 0 where
   pub table : ℕ
   pub steps : ℕ
-  pub output : Output
 
-abbrev pub options : ℕ → ℕ → Output → Options
-options table steps output = record { table = table; steps = steps; output = output }
+abbrev pub options : ℕ → ℕ → Options
+options table steps = record { table = table; steps = steps }
 
 -- ---- the fan of an input
 
@@ -105,17 +104,10 @@ table_full v n o = (fan : Fan) × (first : Signature) × IsOpening v fan first �
 abbrev pub not_good : InputValue → Case
 not_good v o = (fan : Fan) × (first : Signature) × IsOpening v fan first × ((sig : Signature) × IsFirst UpTo (IsBad fan first) sig × IsRefused fan sig o)
 
--- the chambers are listed
-abbrev pub lists : InputValue → Options → Case
-lists v n o = (fan : Fan) × (first : Signature) × IsOpening v fan first × ((l : Listing) × IsListing fan first (length v.degrees.columns) l × (o ≡ written n.output l))
-
--- ---- in order
-
-abbrev pub after_reach : Options → InputValue → Case
-after_reach n v = not_good v otherwise lists v n
+-- ---- the refusals in order
 
 abbrev pub after_cones : Options → InputValue → Case
-after_cones n v = table_wide v n otherwise (table_full v n otherwise after_reach n v)
+after_cones n v = table_wide v n otherwise (table_full v n otherwise not_good v)
 
 abbrev pub after_verdicts : Options → InputValue → Case
 after_verdicts n v = wide_cone v otherwise after_cones n v
@@ -123,5 +115,29 @@ after_verdicts n v = wide_cone v otherwise after_cones n v
 abbrev pub after_whole : Options → InputValue → Case
 after_whole n v = has_monomial v otherwise (other_stops v n otherwise after_verdicts n v)
 
-abbrev pub fan_of : Options → InputValue → Case
-fan_of n v = whole_stops v n otherwise after_whole n v
+-- why the chambers of an input aren't listed
+abbrev pub refuses : Options → InputValue → Case
+refuses n v = whole_stops v n otherwise after_whole n v
+
+-- ---- the listing, and what is answered of it
+
+-- the fan of the input, and the listing of its chambers
+pub record IsListingOf (v : InputValue) (fan : Fan) (l : Listing) : Type 0 where
+  pub first : Signature
+  pub opening : IsOpening v fan first
+  pub listing : IsListing fan first (length v.degrees.columns) l
+
+-- they decide
+abbrev pub lists : (Fan → Listing → Case) → InputValue → Case
+lists of_listing v o = (fan : Fan) × (l : Listing) × IsListingOf v fan l × of_listing fan l o
+
+-- the chambers aren't listed, or the listing decides
+abbrev pub listed_then : Options → (Fan → Listing → Case) → InputValue → Case
+listed_then n of_listing v = refuses n v otherwise lists of_listing v
+
+-- the listing is written
+abbrev pub writes : Output → Fan → Listing → Case
+writes output fan l o = o ≡ written output l
+
+abbrev pub fan_of : Options → Output → InputValue → Case
+fan_of n output v = listed_then n (writes output) v

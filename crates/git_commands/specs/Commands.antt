@@ -23,7 +23,7 @@ output_of false = Plain
 
 -- the numbers with which a sample is run
 abbrev pub sample_options : Options
-sample_options = options TABLE_UNSET STEPS_UNSET Counted
+sample_options = options TABLE_UNSET STEPS_UNSET
 
 -- the text of an input
 abbrev pub is_written : InputValue → Case
@@ -31,10 +31,10 @@ is_written v o = o ≡ says Done (input_text v)
 
 -- the cases of a command for the input of which it tells
 abbrev pub cases_of : Command → InputValue → Case
-cases_of (Fan workers table steps certs) v = fan_of (options table steps (output_of certs)) v
+cases_of (Fan workers table steps certs) v = fan_of (options table steps) (output_of certs) v
 cases_of (Faces steps) v = faces_of steps v
 cases_of (Make sample false) v = is_written v
-cases_of (Make sample true) v = fan_of sample_options v
+cases_of (Make sample true) v = fan_of sample_options Counted v
 
 -- the command reads its input
 abbrev pub Reads : Command → Type 0

@@ -1,12 +1,11 @@
 -- The cones of the faces with free verdicts are those of the a-faces.
-use Rattle.std.proofs.Common.{◌≡◌, ◌≢◌, ◌⊎◌, ◌∙◌, ℕ, ◌^◌, ◌<◌, ◌≤◌, List, [], ◌∷◌, length, map, All, Result, Ok, Err, inl, inr, refl, sym, ap, subst, arith}
+use Rattle.std.proofs.Common.{◌≡◌, ◌⊎◌, ℕ, ◌^◌, ◌<◌, ◌≤◌, List, [], ◌∷◌, length, map, inl, inr, refl, sym, subst, arith}
 use Rattle.std.proofs.lemmas.Bool.{cases_lt}
-use Rattle.std.specs.Prelude.{◌↔◌, AllPairs, Contains, IfOk}
+use Rattle.std.specs.Prelude.{◌↔◌, AllPairs, Contains}
 use Rattle.git_lemmas.specs.Members.{Member}
 use Rattle.git_lemmas.proofs.Members.{contains_member, member_contains, all_member, member_all}
 use Rattle.git_lemmas.proofs.Sorting.{Ascends, ascends_of_pairs, pairs_of_ascends}
-use Rattle.git_defs.specs.Vectors.{Vector}
-use Rattle.git_defs.specs.Faces.{face, IsConeFace, IsFullDimensional, IsGreatestMask, IsLeastMask, AreCones}
+use Rattle.git_defs.specs.Faces.{face, IsFullDimensional, IsLeastMask}
 use Rattle.git_stages.specs.Wide.{NeverWide, IsWideAt}
 use Rattle.git_stages.specs.declared.wide.WideAt.{WideAt}
 use Rattle.git_stages.proofs.Uniqueness.{wide_not_never}
@@ -16,7 +15,7 @@ use Rattle.git_orbit.proofs.Accepted.{cones_along, fault_along}
 use Rattle.git_orbit.proofs.Settled.{not_both}
 use Rattle.git_defs.proofs.Lengths.{all_of_length, of_length_all}
 use Rattle.git_minors.proofs.Parts.{face_of_length}
-use Rattle.git_orbit.specs.Orbits.{AreFaces, AreOrbitCones, IsOrbitCone, IsNewFault}
+use Rattle.git_orbit.specs.Orbits.{AreFaces, AreOrbitCones, IsNewFault}
 use Rattle.git_orbit.specs.declared.orbit.OrbitCone.{OrbitCone}
 use Rattle.git_orbit.specs.declared.orbit.ConesFault.{ConesFault}
 use Rattle.git_orbit.specs.declared.orbit.ConesFault.TheVariants.{Wide, NoMemory}

@@ -1,5 +1,5 @@
 -- The full faces of an input: the whole one, and the others after it.
-use Rattle.std.proofs.Common.{◌≡◌, ◌≢◌, ◌⊎◌, ◌∙◌, ℕ, zero, suc, ◌+◌, ◌-◌, ◌^◌, ◌<◌, ◌≤◌, List, [], ◌∷◌, ◌++◌, length, map, All, inl, inr, refl, sym, ap, subst, arith}
+use Rattle.std.proofs.Common.{◌≡◌, ◌≢◌, ◌⊎◌, ◌∙◌, ℕ, ◌^◌, ◌<◌, ◌≤◌, List, [], ◌∷◌, ◌++◌, length, map, inl, inr, refl, sym, ap, subst, arith}
 use Rattle.std.specs.Prelude.{◌↔◌, AllPairs, Contains, Bool, IsTrue}
 use Rattle.std.specs.List.{AllZip}
 use Rattle.std.proofs.lemmas.Nat.{pow_pos}
@@ -8,7 +8,7 @@ use Rattle.git_lemmas.proofs.Members.{contains_member, member_contains, all_memb
 use Rattle.git_lemmas.proofs.Sorting.{Ascends, ascends_of_pairs, pairs_of_ascends}
 use Rattle.git_base.specs.declared.status.Status.{Status}
 use Rattle.git_defs.specs.Vectors.{HasRank}
-use Rattle.git_defs.specs.Faces.{face, IsConeFace}
+use Rattle.git_defs.specs.Faces.{face}
 use Rattle.git_grading.specs.Gradings.{IsGrading}
 use Rattle.git_orbit.proofs.Fans.{face_whole}
 use Rattle.git_input.specs.Inputs.{InputValue}

@@ -3,3 +3,4 @@ pub mod Accepted
 pub mod OneFan
 pub mod NotGood
 pub mod Opens
+pub mod Listings

@@ -1,6 +1,5 @@
 -- The first reached signature that is wide, or the listing.
-use Rattle.std.proofs.Common.{◌≡◌, ◌≢◌, ◌∙◌, ◌≤◌, ◌<◌, ◌+◌, ◌*◌, ℕ, List, ◌++◌, [], length, Result, Ok, Err, inl, inr, refl, sym, ap, subst, arith}
-use Rattle.std.specs.Prelude.{IfOk, OnOk}
+use Rattle.std.proofs.Common.{◌≡◌, ◌∙◌, ◌≤◌, ◌<◌, ◌+◌, ◌*◌, ℕ, List, length, inl, inr, refl, sym, ap, subst, arith}
 use Rattle.std.specs.declared.cmp.Ordering.{Ordering}
 use Rattle.std.specs.declared.cmp.Ordering.TheVariants.{Less, Equal, Greater}
 use Rattle.std.specs.Ordering.{ordering_reverse}
@@ -23,10 +22,9 @@ use Rattle.git_chamber.specs.declared.cell.Cell.{Cell}
 use Rattle.git_chamber.specs.declared.cell.Cell.TheVariants as cell
 use Rattle.git_listing.specs.Listings.{Listing}
 use Rattle.git_assemble.specs.Assembling.{AllGood, IsFirstBad, IsGoodSignature, IsFirstSignature, IsClosure, IsAssembleFault}
-use Rattle.git_replies.specs.Cases.{Case, Passes, IsFirst, Outcome, says, ◌otherwise◌}
+use Rattle.git_replies.specs.Cases.{Passes, Outcome, says}
 use Rattle.git_answers.specs.Ends.{spelled}
-use Rattle.git_answers.specs.Verdicts.{IsTail}
-use Rattle.git_answers.specs.Fan.{Options, IsOpening, IsBad, IsRefused, Refuses, UpTo, written, not_good, lists, after_reach}
+use Rattle.git_answers.specs.Fan.{IsBad, IsRefused, Refuses, UpTo, IsListingOf, written, not_good}
 use Rattle.git_replies.specs.Lines.{wide_chamber_text}
 use Rattle.git_answers.specs.declared.output.Output.{Output}
 use Rattle.git_answers.specs.declared.output.Output.TheVariants.{Plain, Certified, Counted}
@@ -68,21 +66,9 @@ written_done Plain l = refl
 written_done Certified l = refl
 written_done Counted l = refl
 
--- the listing, and what follows it
-pub listed_reply : (v : InputValue) (n : Options) (g : Graph) (first : Signature) (l : Listing) (s : Status) (text after : List ℕ) → IsGraphOf v g → IsFirstSignature g first → AllGood g.fan first
-    → IsListing g.fan first (length g.columns) l → s ≡ statuses.Done → IsTail v (written n.output l).tail after → text ≡ (written n.output l).text ++ after → spelled v (after_reach n v) s text
-listed_reply v n g first l s text after of is good listing status tail spelling = (
-  written n.output l,
-  inr (none_bad v g first of is good, (g.fan, first, opens v g first of is, (l, subst (λ (r : ℕ). IsListing g.fan first r l) (ap length of.columns) listing, refl))),
-  written_done n.output l ∙ sym status,
-  (after, tail, spelling),
-)
-
-pub listed_answer : {T E : Type 0} (status_of : T → Status) (bytes_of : T → List ℕ) (r : Result T E) (v : InputValue) (n : Options) (g : Graph) (first : Signature) (l : Listing) → IsGraphOf v g → IsFirstSignature g first
-    → AllGood g.fan first → IsListing g.fan first (length g.columns) l → IfOk r (λ a. status_of a ≡ statuses.Done)
-    → IfOk r (λ a. (after : List ℕ) × IsTail v (written n.output l).tail after × (bytes_of a ≡ (written n.output l).text ++ after)) → IfOk r (λ a. spelled v (after_reach n v) (status_of a) (bytes_of a))
-listed_answer status_of bytes_of (Ok a) v n g first l of is good listing status text = listed_reply v n g first l (status_of a) (bytes_of a) text.0 of is good listing status text.1 text.2
-listed_answer status_of bytes_of (Err e) v n g first l of is good listing status text = tt
+-- the chambers that the engine lists are the input's
+pub listing_is : (v : InputValue) (g : Graph) (first : Signature) (l : Listing) → IsGraphOf v g → IsFirstSignature g first → IsListing g.fan first (length g.columns) l → IsListingOf v g.fan l
+listing_is v g first l of is listing = record { first = first; opening = opens v g first of is; listing = subst (λ (r : ℕ). IsListing g.fan first r l) (ap length of.columns) listing }
 
 -- the words of a reached signature are few
 pub few_reached : (fan : Fan) (first sig : Signature) → IsLegal fan first → Reached (IsNext fan) first sig → width_of fan ≤ 1024 → length sig ≤ 1024
@@ -114,8 +100,8 @@ narrow_fault fan first (bad.Wide sig at) legal few h = few_reached fan first sig
 narrow_fault fan first bad.NoMemory legal few h = tt
 
 -- the fault's line is that of the first signature that isn't good
-pub not_good_replied : (v : InputValue) (n : Options) (g : Graph) (first : Signature) (f : AssembleFault) (s : Status) (text : List ℕ) → IsGraphOf v g → IsFirstSignature g first → IsAssembleFault g.fan first f → IsNotGoodReply f s text
-    → spelled v (after_reach n v) s text
-not_good_replied v n g first (bad.Wide sig at) s text of is h reply =
-    plain v (after_reach n v) statuses.Wide s text (wide_chamber_text sig at) (inl (first_bad v g first sig (cell.Wide at) (says statuses.Wide (wide_chamber_text sig at)) of is h refl)) reply.0 reply.1
-not_good_replied v n g first bad.NoMemory s text of is h reply = absurd reply
+pub not_good_replied : (v : InputValue) (g : Graph) (first : Signature) (f : AssembleFault) (s : Status) (text : List ℕ) → IsGraphOf v g → IsFirstSignature g first → IsAssembleFault g.fan first f → IsNotGoodReply f s text
+    → spelled v (not_good v) s text
+not_good_replied v g first (bad.Wide sig at) s text of is h reply =
+    plain v (not_good v) statuses.Wide s text (wide_chamber_text sig at) (first_bad v g first sig (cell.Wide at) (says statuses.Wide (wide_chamber_text sig at)) of is h refl) reply.0 reply.1
+not_good_replied v g first bad.NoMemory s text of is h reply = absurd reply

@@ -1,5 +1,5 @@
 -- An input has one fan, and one first signature.
-use Rattle.std.proofs.Common.{◌≡◌, ◌∙◌, sym, ap, subst}
+use Rattle.std.proofs.Common.{◌≡◌, ◌∙◌, sym, subst}
 use Rattle.git_input.specs.Inputs.{InputValue}
 use Rattle.git_ideals.specs.Faces.{IsAFace}
 use Rattle.git_machine.specs.Signatures.{Signature}

@@ -1,7 +1,10 @@
-//! The answer of `fan` to an input: its graph of signatures is opened, closed and listed.
+//! From an input to its chambers: its graph of signatures is opened, closed and listed. What `fan` writes
+//! of the listing.
 #![tactic(auto)]
 
-mod closing;
+mod listing;
 mod opening;
+mod writing;
 
-pub use closing::{fan_alone, fan_together};
+pub use listing::{Listed, list_alone, list_together};
+pub use writing::{fan_alone, fan_together};

@@ -9,9 +9,8 @@ ghost use Rattle.git_orbit.specs.Signatures.{width_of};
 ghost use Rattle.git_chamber.specs.Views.{AreConesOf};
 ghost use Rattle.git_answers.specs.Ends.{spelled};
 ghost use Rattle.git_answers.specs.Verdicts.{AreVerdicts, IsVerdict, whole_face};
-ghost use Rattle.git_answers.specs.Fan.{fan_of, has_monomial, after_whole, after_verdicts, after_cones, IsFanOf, options};
+ghost use Rattle.git_answers.specs.Fan.{refuses, has_monomial, after_whole, after_verdicts, after_cones, IsFanOf, options};
 ghost use Rattle.git_replies.specs.Lines.{monomial_text};
-ghost use Rattle.git_answers.specs.declared.output.Output.{Output};
 ghost use Rattle.git_fan.specs.Fans.{AreFreeMasks, IsOpened, IsWholeVerdict, IsWideReply};
 
 use git_base::{NoMemory, Status};
@@ -115,8 +114,8 @@ fn after_cones(
     requires table { table ≤ 65536 }
     requires entries { cones.k ≡ grading.now.k }
     requires cones { AreConesOf grading.now.k grading.now.columns cones.list }
-    ensures { (v : InputValue) (s : ℕ) (output : Output) → IsFanOf v cones → AreVerdicts v faces.items → v.degrees ≡ grading.now
-        → IfOk result (IsOpened v (options table s output) (after_cones (options table s output) v)) }
+    ensures { (v : InputValue) (s : ℕ) → IsFanOf v cones → AreVerdicts v faces.items → v.degrees ≡ grading.now
+        → IfOk result (IsOpened v (options table s) (after_cones (options table s) v)) }
 {
     let width = width(&cones);
     if (1 << 24) < (table as usize + 64) * width {
@@ -148,7 +147,7 @@ fn after_verdicts(
     requires grading { IsGrading input.now.degrees.k input.now.degrees.columns }
     requires verdicts { AreVerdicts input.now faces.items }
     requires whole { IsAFace input.now.generators (whole_face input.now) }
-    ensures { (s : ℕ) (output : Output) → IfOk result (IsOpened input.now (options table s output) (after_verdicts (options table s output) input.now)) }
+    ensures { (s : ℕ) → IfOk result (IsOpened input.now (options table s) (after_verdicts (options table s) input.now)) }
 {
     let listed: &[FaceVerdict] = &faces;
     let found = free_masks(alloc, listed)?;
@@ -183,7 +182,7 @@ fn after_whole<R: Threads + Sync>(
     requires steps { steps ≤ RUN_STEPS }
     requires grading { IsGrading input.now.degrees.k input.now.degrees.columns }
     requires whole { IsWholeVerdict input.now steps whole }
-    ensures { (output : Output) → IfOk result (IsOpened input.now (options table steps output) (after_whole (options table steps output) input.now)) }
+    ensures { IfOk result (IsOpened input.now (options table steps) (after_whole (options table steps) input.now)) }
 {
     let masks = full_faces(alloc, &input.grading)?;
     match verdicts(rt, alloc, input, after_first(&masks), steps) {
@@ -213,7 +212,7 @@ pub(crate) fn open_fan<R: Threads + Sync>(
 ) -> Result<Opened, NoMemory>
     requires table { table ≤ 65536 }
     requires steps { steps ≤ RUN_STEPS }
-    ensures { (output : Output) → IfOk result (IsOpened input.now (options table steps output) (fan_of (options table steps output) input.now)) }
+    ensures { IfOk result (IsOpened input.now (options table steps) (refuses (options table steps) input.now)) }
 {
     let mask = whole_mask(input);
     match verdict(alloc, input, mask, steps) {

@@ -4,9 +4,11 @@ use Rattle.git_base.specs.declared.status.Status.{Status}
 use Rattle.git_input.specs.Inputs.{InputValue}
 use Rattle.git_text.specs.Grammar.{IsInput}
 use Rattle.git_text.proofs.Matrices.{text_is_a_grading}
-use Rattle.git_replies.specs.Cases.{Outcome, ◌otherwise◌}
+use Rattle.git_replies.specs.Cases.{Outcome, Passes, ◌otherwise◌}
 use Rattle.git_answers.specs.Faces.{face_stops, certifies, faces_of}
-use Rattle.git_answers.specs.Fan.{Options, whole_stops, has_monomial, other_stops, wide_cone, table_wide, table_full, not_good, lists, after_reach, after_cones, after_verdicts, after_whole, fan_of, options}
+use Rattle.git_answers.specs.Fan.{Options, whole_stops, has_monomial, other_stops, wide_cone, table_wide, table_full, not_good, lists, writes, after_cones, after_verdicts, after_whole, refuses, fan_of, options}
+use Rattle.git_answers.specs.declared.output.Output.{Output}
+use Rattle.git_answers.specs.declared.output.Output.TheVariants.{Counted}
 use Rattle.git_replies.proofs.CaseLaws.{later}
 use Rattle.git_replies.proofs.ReadLaws.{reads_input}
 use Rattle.git_answers.specs.Verdicts.{whole_face}
@@ -17,30 +19,35 @@ use Rattle.git_commands.specs.Commands.{output_of, sample_options}
 use Rattle.git_top.specs.Laws.{FacesAreDone, InputsAreDone, NothingRefuses, SamplesAreDone}
 use Rattle.git_fan.proofs.NotGood.{written_done}
 use Rattle.git_fan.proofs.FullFaces.{whole_full}
+use Rattle.git_fan.proofs.Opens.{neither}
 
 pub faces_are_done : FacesAreDone
 faces_are_done steps bytes v o few is ends h =
     let c = later (face_stops v steps) certifies o (λ p stop. ends stop.0 stop.1.holds.0 stop.1.holds.1.0 stop.1.holds.1.1) (reads_input (faces_of steps) bytes v o few is h) in
     ap (λ (p : Outcome). p.status) c
 
-fan_done : (v : InputValue) (n : Options) (o : Outcome) → IsGrading v.degrees.k v.degrees.columns → NothingRefuses v n.table n.steps → fan_of n v o → o.status ≡ Done
-fan_done v n o g none h =
-    let a = later (whole_stops v n) (after_whole n v) o (λ p stop. none.ends (whole_face v) (whole_full v g) stop.0 stop.1) h in
-    let b = later (has_monomial v) (other_stops v n otherwise after_verdicts n v) o (λ p has. has.0 none.a_face) a in
-    let c = later (other_stops v n) (after_verdicts n v) o (λ p stop. none.ends stop.0 stop.1.holds.1.0 stop.1.holds.1.1.0 stop.1.holds.1.1.1) b in
-    let d = later (wide_cone v) (after_cones n v) o (λ p wide. none.narrow wide.0 wide.2.0 wide.2.1) c in
-    let e = later (table_wide v n) (table_full v n otherwise after_reach n v) o (λ p wide. (let fits = none.fits wide.0 wide.1 in let more = wide.2 in omega (arith, fits, more))) d in
-    let f = later (table_full v n) (after_reach n v) o (λ p full. none.reach full.0 full.1 full.2 full.3) e in
-    let l = later (not_good v) (lists v n) o (λ p bad. none.good bad.0 bad.1 bad.3.0 bad.2 bad.3.1.holds) f in
-    ap (λ (p : Outcome). p.status) l.3.2 ∙ written_done n.output l.3.0
+-- none of the refusals holds
+pub nothing_refused : (v : InputValue) (n : Options) → IsGrading v.degrees.k v.degrees.columns → NothingRefuses v n.table n.steps → Passes (refuses n v)
+nothing_refused v n g none =
+    neither (whole_stops v n) (after_whole n v) (λ o stop. none.ends (whole_face v) (whole_full v g) stop.0 stop.1)
+    (neither (has_monomial v) (other_stops v n otherwise after_verdicts n v) (λ o has. has.0 none.a_face)
+    (neither (other_stops v n) (after_verdicts n v) (λ o stop. none.ends stop.0 stop.1.holds.1.0 stop.1.holds.1.1.0 stop.1.holds.1.1.1)
+    (neither (wide_cone v) (after_cones n v) (λ o wide. none.narrow wide.0 wide.2.0 wide.2.1)
+    (neither (table_wide v n) (table_full v n otherwise not_good v) (λ o wide. (let fits = none.fits wide.0 wide.1 in let more = wide.2 in omega (arith, fits, more)))
+    (neither (table_full v n) (not_good v) (λ o full. none.reach full.0 full.1 full.2 full.3) (λ o bad. none.good bad.0 bad.1 bad.3.0 bad.2 bad.3.1.holds))))))
+
+fan_done : (v : InputValue) (n : Options) (output : Output) (o : Outcome) → IsGrading v.degrees.k v.degrees.columns → NothingRefuses v n.table n.steps → fan_of n output v o → o.status ≡ Done
+fan_done v n output o g none h =
+    let l = later (refuses n v) (lists (writes output) v) o (nothing_refused v n g none) h in
+    ap (λ (p : Outcome). p.status) l.3 ∙ written_done output l.1
 
 pub inputs_are_done : InputsAreDone
 inputs_are_done workers table steps certs bytes v o few is none h =
-    let n : Options = options table steps (output_of certs) in
-    fan_done v n o (text_is_a_grading is.matrix_lines v.degrees is.matrix) none (reads_input (fan_of n) bytes v o few is h)
+    let n : Options = options table steps in
+    fan_done v n (output_of certs) o (text_is_a_grading is.matrix_lines v.degrees is.matrix) none (reads_input (fan_of n (output_of certs)) bytes v o few is h)
 
 pub samples_are_done : SamplesAreDone
 samples_are_done sample bytes v o range is = record {
   written = λ h. ap (λ (p : Outcome). p.status) h.2;
-  counted = λ none h. (let same = one_input sample h.0 v h.1 is in fan_done v sample_options o (samples_are_inputs sample v range is).0 none (subst (λ (w : InputValue). fan_of sample_options w o) same h.2));
+  counted = λ none h. (let same = one_input sample h.0 v h.1 is in fan_done v sample_options Counted o (samples_are_inputs sample v range is).0 none (subst (λ (w : InputValue). fan_of sample_options Counted w o) same h.2));
 }

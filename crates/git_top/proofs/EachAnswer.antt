@@ -20,16 +20,17 @@ use Rattle.git_replies.specs.Cases.{HasSome, says}
 use Rattle.git_replies.proofs.ReadLaws.{reads_some}
 use Rattle.git_commands.specs.Commands.{cases_of, output_of, sample_options, command_answer}
 use Rattle.git_answers.specs.Fan.{options}
+use Rattle.git_answers.specs.declared.output.Output.TheVariants.{Counted}
 use Rattle.git_top.specs.Run.{usage_text}
 use Rattle.git_top.specs.Laws.{EachHasAnAnswer}
 use Rattle.git_top.proofs.FacesExist.{faces_some}
 use Rattle.git_top.proofs.FanExist.{fan_some}
 
 cases_some : (c : Command) (v : InputValue) → IsGrading v.degrees.k v.degrees.columns → AreGenerators v.degrees v.generators → HasSome (cases_of c v)
-cases_some (Fan workers table steps certs) v grading are = fan_some v (options table steps (output_of certs)) grading are
+cases_some (Fan workers table steps certs) v grading are = fan_some v (options table steps) grading are (output_of certs)
 cases_some (Faces steps) v grading are = faces_some v steps grading
 cases_some (Make sample false) v grading are = (says Done (input_text v), refl)
-cases_some (Make sample true) v grading are = fan_some v sample_options grading are
+cases_some (Make sample true) v grading are = fan_some v sample_options grading are Counted
 
 read_some : (c : Command) (bytes : List ℕ) → HasSome (Rattle.git_replies.specs.Reads.reads (cases_of c) bytes)
 read_some c bytes =

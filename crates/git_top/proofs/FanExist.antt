@@ -58,11 +58,13 @@ use Rattle.git_faces.specs.FaceVerdicts.{RunEnds}
 use Rattle.git_faces.specs.FullFaces.{AreFullFaces}
 use Rattle.git_faces.proofs.FullLists.{some as full_list}
 use Rattle.git_faces.proofs.FirstStops.{some as first_or_all}
-use Rattle.git_replies.specs.Cases.{Passes, HasSome, Settles, IsFirst, Outcome, says, block, ◌otherwise◌}
+use Rattle.git_listing.specs.Listings.{Listing}
+use Rattle.git_replies.specs.Cases.{Case, Passes, HasSome, Settles, IsFirst, Outcome, says, block, ◌otherwise◌}
 use Rattle.git_answers.specs.Verdicts.{IsFullFace, StopsWith, StopsAt, start_at, whole_face}
 use Rattle.git_replies.specs.Lines.{stop_text, monomial_text, wide_face_text, wide_chamber_text, table_wide_text, full_text}
-use Rattle.git_answers.specs.Fan.{Options, written, IsFanOf, IsOpening, IsWideFace, IsBad, IsRefused, Refuses, UpTo, whole_stops, has_monomial, other_stops, wide_cone, table_wide, table_full, not_good, lists, after_reach, after_cones, after_verdicts, after_whole, fan_of}
-use Rattle.git_replies.proofs.CaseLaws.{some_of}
+use Rattle.git_answers.specs.Fan.{Options, written, writes, IsFanOf, IsListingOf, IsOpening, IsWideFace, IsBad, IsRefused, Refuses, UpTo, whole_stops, has_monomial, other_stops, wide_cone, table_wide, table_full, not_good, listed_then, after_cones, after_verdicts, after_whole, refuses, fan_of}
+use Rattle.git_answers.specs.declared.output.Output.{Output}
+use Rattle.git_fan.proofs.Opens.{neither}
 use Rattle.git_top.proofs.FacesExist.{stop_of}
 use Rattle.git_fan.proofs.FullFaces.{runs_on, whole_full, StartsWhole, starts_whole, first_other}
 use Rattle.git_fan.proofs.NotGood.{good_not_refused}
@@ -91,7 +93,22 @@ kept P (m ∷ ms) falls decide = by (decide m (inl refl)) (kept P ms falls.1 (λ
     back n (inl e) q = absurd (out (subst P (sym e) q))
     back n (inr o) q = rest.1.back n o q
 
+-- the fan of an input and its listing
+pub record HasChambers (v : InputValue) : Type 0 where
+  pub fan : Fan
+  pub graph : IsGraph (record { fan = fan; columns = v.degrees.columns })
+  pub listing : Listing
+  pub is : IsListingOf v fan listing
+
 module _ (v : InputValue) (n : Options) (g : IsGrading v.degrees.k v.degrees.columns) (gens : AreGenerators v.degrees v.generators) where
+  -- one of the cases decides, or the chambers are listed
+  abbrev pub Settled : Case → Type 0
+  Settled C = HasSome C ⊎ (Passes C × HasChambers v)
+
+  settled_of : (C D : Case) → Settles C → (Passes C → Settled D) → Settled (λ o. (C otherwise D) o)
+  settled_of C D (inl c) d = inl (c.0, inl c.1)
+  settled_of C D (inr p) d = elim (d p) [ inl h ↦ inl (h.0, inr (p, h.1)) | inr h ↦ inr (neither C D p h.0, h.1) ]
+
   -- ---- runs
   whole_settles : Settles (whole_stops v n)
   whole_settles = elim (stops (start_at v (whole_face v)) n.steps) [
@@ -319,38 +336,47 @@ module _ (v : InputValue) (n : Options) (g : IsGrading v.degrees.k v.degrees.col
           ),
         )
 
-        reach_some : HasSome (after_reach n v)
-        reach_some = elim searched [
-          | inr f ↦ (f.outcome, inl (bad_named f))
+        reach_settles : Settled (not_good v)
+        reach_settles = elim searched [
+          | inr f ↦ inl (f.outcome, bad_named f)
           | inl good ↦ (
               let all : AllGood fan first.0 = λ s r. good s (contains_member s xs (l.reach.complete s r)) in
-              let listing = a_listing fan first.0 (length v.degrees.columns) xs is_fan legal l.reach all in (
-                written n.output listing.0,
-                inr (
-                  (λ o h. (let there = opening_along v fan h.0 first.0 h.1 (λ f s. AllGood f s) opening h.2 all in good_not_refused h.0 h.3.0 o (there h.3.0 h.3.1.holds.0) h.3.2)),
-                  (fan, first.0, opening, (listing.0, listing.1, refl)),
-                ),
+              let listing = a_listing fan first.0 (length v.degrees.columns) xs is_fan legal l.reach all in
+              inr (
+                (λ o h. (let there = opening_along v fan h.0 first.0 h.1 (λ f s. AllGood f s) opening h.2 all in good_not_refused h.0 h.3.0 o (there h.3.0 h.3.1.holds.0) h.3.2)),
+                record { fan = fan; graph = is_graph; listing = listing.0; is = record { first = first.0; opening = opening; listing = listing.1 } },
               ))
         ]
 
-      full_some : HasSome (λ o. (table_full v n otherwise after_reach n v) o)
-      full_some = elim listed [
-        | inl more ↦ (says status.Full (full_text n.table), inl (fan, first.0, opening, more, refl))
-        | inr l ↦ (let h = reach_some l.0 l.1 in (h.0, inr (fits l.0 l.1, h.1)))
+      full_settles : Settled (λ o. (table_full v n otherwise not_good v) o)
+      full_settles = elim listed [
+        | inl more ↦ inl (says status.Full (full_text n.table), inl (fan, first.0, opening, more, refl))
+        | inr l ↦ settled_of (table_full v n) (not_good v) (inr (fits l.0 l.1)) (λ p. reach_settles l.0 l.1)
       ]
 
-      cones_some : HasSome (after_cones n v)
-      cones_some = some_of (table_wide v n) (table_full v n otherwise after_reach n v) table_wide_settles (λ p. full_some)
+      cones_settle : Settled (after_cones n v)
+      cones_settle = settled_of (table_wide v n) (table_full v n otherwise not_good v) table_wide_settles (λ p. full_settles)
 
-    verdicts_some : HasSome (after_verdicts n v)
-    verdicts_some = elim (cones_or_wide v.degrees.k v.degrees.columns us.0 g faces) [
-      | inl r ↦ (let h = cones_some r.0 r.1 in (h.0, inr (none_wide r.0 r.1, h.1)))
-      | inr r ↦ (says status.Wide (wide_face_text r.0 r.1), inl (wide_some r.0 r.1 r.2))
+    verdicts_settle : Settled (after_verdicts n v)
+    verdicts_settle = elim (cones_or_wide v.degrees.k v.degrees.columns us.0 g faces) [
+      | inl r ↦ settled_of (wide_cone v) (after_cones n v) (inr (none_wide r.0 r.1)) (λ p. cones_settle r.0 r.1)
+      | inr r ↦ inl (says status.Wide (wide_face_text r.0 r.1), inl (wide_some r.0 r.1 r.2))
     ]
 
-  pub fan_some : HasSome (fan_of n v)
-  fan_some =
-      some_of (whole_stops v n) (after_whole n v) whole_settles (λ p.
+  -- an input is refused, or its chambers are listed
+  pub refused_or_listed : Settled (refuses n v)
+  refused_or_listed =
+      settled_of (whole_stops v n) (after_whole n v) whole_settles (λ p.
       let e = whole_ends p in
-      some_of (has_monomial v) (other_stops v n otherwise after_verdicts n v) (monomial_settles e) (λ q.
-      some_of (other_stops v n) (after_verdicts n v) others_settle (λ r. verdicts_some (all_run e r) (is_a_face e q))))
+      settled_of (has_monomial v) (other_stops v n otherwise after_verdicts n v) (monomial_settles e) (λ q.
+      settled_of (other_stops v n) (after_verdicts n v) others_settle (λ r. verdicts_settle (all_run e r) (is_a_face e q))))
+
+  -- what is answered of a listing, where each listing has an answer
+  pub listed_some : (of_listing : Fan → Listing → Case) → ((h : HasChambers v) → HasSome (of_listing h.fan h.listing)) → HasSome (listed_then n of_listing v)
+  listed_some of_listing some = elim refused_or_listed [
+    | inl r ↦ (r.0, inl r.1)
+    | inr h ↦ (let s = some h.1 in (s.0, inr (h.0, (h.1.fan, h.1.listing, h.1.is, s.1))))
+  ]
+
+  pub fan_some : (output : Output) → HasSome (fan_of n output v)
+  fan_some output = listed_some (writes output) (λ h. (written output h.listing, refl))

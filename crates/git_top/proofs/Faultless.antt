@@ -7,6 +7,8 @@ use Rattle.git_base.specs.Status.{code_of}
 use Rattle.git_machine.specs.Signatures.{Signature}
 use Rattle.git_chamber.specs.declared.cell.Cell.{Cell}
 use Rattle.git_chamber.specs.declared.cell.Cell.TheVariants as cell
+use Rattle.git_orbit.specs.Orbits.{Fan}
+use Rattle.git_listing.specs.Listings.{Listing}
 use Rattle.git_input.specs.Inputs.{InputValue}
 use Rattle.git_words.specs.declared.commands.Command.{Command}
 use Rattle.git_words.specs.declared.commands.Command.TheVariants.{Fan, Faces, Make}
@@ -14,7 +16,9 @@ use Rattle.git_replies.specs.Cases.{Case, Outcome}
 use Rattle.git_replies.specs.Reads.{reads}
 use Rattle.git_answers.specs.Verdicts.{StopsWith}
 use Rattle.git_answers.specs.Faces.{faces_of}
-use Rattle.git_answers.specs.Fan.{Options, options, Refuses, after_reach, after_cones, after_verdicts, after_whole, fan_of}
+use Rattle.git_answers.specs.Fan.{Options, options, Refuses, after_cones, after_verdicts, after_whole, refuses, listed_then, writes, fan_of}
+use Rattle.git_answers.specs.declared.output.Output.{Output}
+use Rattle.git_answers.specs.declared.output.Output.TheVariants.{Counted}
 use Rattle.git_answers.specs.Ends.{over, Ends, whole, cut, unread, starved, WritesOr}
 use Rattle.git_fan.proofs.NotGood.{written_done}
 use Rattle.git_commands.specs.Commands.{cases_of, command_answer, output_of, reply_of, sample_options}
@@ -35,14 +39,10 @@ low_refused sig (cell.Good c) o refused = absurd refused
 low_refused sig (cell.Wide at) o refused = along o _ refused (omega arith)
 
 module _ (v : InputValue) (n : Options) (o : Outcome) where
-  low_reach : after_reach n v o → IsBelowFaults o.status
-  low_reach (inl bad) = low_refused bad.3.0 bad.3.2.0 o bad.3.2.2
-  low_reach (inr l) = along o _ l.1.3.2 (low_by _ _ (written_done n.output l.1.3.0) (omega arith))
-
   low_cones : after_cones n v o → IsBelowFaults o.status
   low_cones (inl wide) = along o _ wide.3 (omega arith)
   low_cones (inr (p, inl full)) = along o _ full.4 (omega arith)
-  low_cones (inr (p, inr (q, rest))) = low_reach rest
+  low_cones (inr (p, inr (q, bad))) = low_refused bad.3.0 bad.3.2.0 o bad.3.2.2
 
   low_verdicts : after_verdicts n v o → IsBelowFaults o.status
   low_verdicts (inl wide) = along o _ wide.2.2 (omega arith)
@@ -53,19 +53,26 @@ module _ (v : InputValue) (n : Options) (o : Outcome) where
   low_whole (inr (p, inl stop)) = along o _ stop.2.2 (low_stop v n.steps stop.0 stop.2.0 stop.2.1)
   low_whole (inr (p, inr (q, rest))) = low_verdicts rest
 
-  low_fan : fan_of n v o → IsBelowFaults o.status
-  low_fan (inl stop) = along o _ stop.2 (low_stop v n.steps _ stop.0 stop.1)
-  low_fan (inr (p, rest)) = low_whole rest
+  low_refuses : refuses n v o → IsBelowFaults o.status
+  low_refuses (inl stop) = along o _ stop.2 (low_stop v n.steps _ stop.0 stop.1)
+  low_refuses (inr (p, rest)) = low_whole rest
+
+  low_listed : (of_listing : Fan → Listing → Case) → ((fan : Fan) (l : Listing) → of_listing fan l o → IsBelowFaults o.status) → listed_then n of_listing v o → IsBelowFaults o.status
+  low_listed of_listing low (inl refused) = low_refuses refused
+  low_listed of_listing low (inr (p, l)) = low l.0 l.1 l.3
+
+  low_fan : (output : Output) → fan_of n output v o → IsBelowFaults o.status
+  low_fan output h = low_listed (writes output) (λ fan l is. along o _ is (low_by _ _ (written_done output l) (omega arith))) h
 
 low_faces : (limit : ℕ) (v : InputValue) (o : Outcome) → faces_of limit v o → IsBelowFaults o.status
 low_faces limit v o (inl stop) = along o _ stop.2.2 (low_stop v limit stop.0 stop.2.0 stop.2.1)
 low_faces limit v o (inr done) = along o _ done.1 (omega arith)
 
 low_cases : (c : Command) (v : InputValue) (o : Outcome) → cases_of c v o → IsBelowFaults o.status
-low_cases (Fan workers table steps certs) v o h = low_fan v (options table steps (output_of certs)) o h
+low_cases (Fan workers table steps certs) v o h = low_fan v (options table steps) o (output_of certs) h
 low_cases (Faces steps) v o h = low_faces steps v o h
 low_cases (Make sample false) v o h = along o _ h (omega arith)
-low_cases (Make sample true) v o h = low_fan v sample_options o h
+low_cases (Make sample true) v o h = low_fan v sample_options o Counted h
 
 low_read : (c : Command) (bytes : List ℕ) (o : Outcome) → reads (cases_of c) bytes o → IsBelowFaults o.status
 low_read c bytes o (inl long) = along o _ long.1 (omega arith)

@@ -24,7 +24,9 @@ use Rattle.git_assemble.proofs.OneListing.{one_listing}
 use Rattle.git_replies.specs.Cases.{Case, Passes, HasOne, IsFirst, Outcome, says, ◌otherwise◌}
 use Rattle.git_answers.specs.Verdicts.{StopsWith, StopsAt, whole_face}
 use Rattle.git_replies.specs.Lines.{stop_text, wide_face_text, table_wide_text}
-use Rattle.git_answers.specs.Fan.{Options, IsOpening, IsBad, IsRefused, Refuses, UpTo, IsWideFace, whole_stops, has_monomial, other_stops, wide_cone, table_wide, table_full, written, not_good, lists, after_reach, after_cones, after_verdicts, after_whole, fan_of, options}
+use Rattle.git_answers.specs.Fan.{Options, IsOpening, IsBad, IsRefused, Refuses, UpTo, IsWideFace, whole_stops, has_monomial, other_stops, wide_cone, table_wide, table_full, written, writes, not_good, lists, listed_then, after_cones, after_verdicts, after_whole, refuses, fan_of, options, IsListingOf}
+use Rattle.git_answers.specs.declared.output.Output.{Output}
+use Rattle.git_answers.specs.declared.output.Output.TheVariants.{Counted}
 use Rattle.git_replies.proofs.CaseLaws.{one_of, one_by, one_is, one_first}
 use Rattle.git_answers.proofs.FaceLaws.{one_stop, first_stop_one, faces_one}
 use Rattle.git_replies.proofs.ReadLaws.{reads_one}
@@ -88,28 +90,39 @@ not_good_one v x y a b =
     bad_one b.0 b.1 x y
     (opening_along v a.0 b.0 a.1 b.1 (λ fan first. (sig : Signature) × IsFirst UpTo (IsBad fan first) sig × IsRefused fan sig x) a.2 b.2 a.3) b.3
 
-lists_one : (v : InputValue) (n : Options) → HasOne (lists v n)
-lists_one v n x y a b =
-    one_by (IsListing b.0 b.1 (length v.degrees.columns)) (λ l o. o ≡ written n.output l) (one_listing b.0 b.1 (length v.degrees.columns)) (λ l. one_is _) x y
-    (opening_along v a.0 b.0 a.1 b.1 (λ fan first. (l : Listing) × IsListing fan first (length v.degrees.columns) l × (x ≡ written n.output l)) a.2 b.2 a.3) b.3
-
-fan_one : (v : InputValue) (n : Options) → HasOne (fan_of n v)
-fan_one v n =
+refuses_one : (v : InputValue) (n : Options) → HasOne (refuses n v)
+refuses_one v n =
     one_of (whole_stops v n) (after_whole n v) (whole_one v n) (λ a.
     one_of (has_monomial v) (other_stops v n otherwise after_verdicts n v) (λ x y p q. p.1 ∙ sym q.1) (λ b.
     one_of (other_stops v n) (after_verdicts n v) (first_stop_one v n.steps (λ m. (m ≢ whole_face v) × StopsAt v n.steps m)) (λ c.
     one_of (wide_cone v) (after_cones n v) (wide_one v) (λ d.
-    one_of (table_wide v n) (table_full v n otherwise after_reach n v) (table_wide_one v n) (λ e.
-    one_of (table_full v n) (after_reach n v) (λ x y p q. p.4 ∙ sym q.4) (λ f.
-    one_of (not_good v) (lists v n) (not_good_one v) (λ g. lists_one v n)))))))
+    one_of (table_wide v n) (table_full v n otherwise not_good v) (table_wide_one v n) (λ e.
+    one_of (table_full v n) (not_good v) (λ x y p q. p.4 ∙ sym q.4) (λ f. not_good_one v))))))
+
+-- an input has one listing
+listing_along : (v : InputValue) (a b : Fan) (l m : Listing) (P : Fan → Listing → Type 0) → IsListingOf v a l → IsListingOf v b m → P a l → P b m
+listing_along v a b l m P p q h =
+    let fans = one_fan v a b p.opening.is_fan q.opening.is_fan in
+    let other : IsListing b q.first (length v.degrees.columns) l = opening_along v a b p.first q.first (λ fan first. IsListing fan first (length v.degrees.columns) l) p.opening q.opening p.listing in
+    subst (P b) (one_listing b q.first (length v.degrees.columns) l m other q.listing) (subst (λ (fan : Fan). P fan l) fans h)
+
+lists_one : (v : InputValue) (of_listing : Fan → Listing → Case) → ((fan : Fan) (l : Listing) → IsListingOf v fan l → HasOne (of_listing fan l)) → HasOne (lists of_listing v)
+lists_one v of_listing one x y a b = one b.0 b.1 b.2 x y (listing_along v a.0 b.0 a.1 b.1 (λ fan l. of_listing fan l x) a.2 b.2 a.3) b.3
+
+-- what is answered of a listing, where the listing has one answer
+listed_one : (v : InputValue) (n : Options) (of_listing : Fan → Listing → Case) → ((fan : Fan) (l : Listing) → IsListingOf v fan l → HasOne (of_listing fan l)) → HasOne (listed_then n of_listing v)
+listed_one v n of_listing one = one_of (refuses n v) (lists of_listing v) (refuses_one v n) (λ p. lists_one v of_listing one)
+
+fan_one : (v : InputValue) (n : Options) (output : Output) → HasOne (fan_of n output v)
+fan_one v n output = listed_one v n (writes output) (λ fan l is. one_is (written output l))
 
 -- ---- commands
 
 cases_one : (c : Command) (v : InputValue) → HasOne (cases_of c v)
-cases_one (command.Fan workers table steps certs) v = fan_one v (options table steps (output_of certs))
+cases_one (command.Fan workers table steps certs) v = fan_one v (options table steps) (output_of certs)
 cases_one (command.Faces steps) v = faces_one v steps
 cases_one (command.Make sample false) v = one_is (says status.Done (input_text v))
-cases_one (command.Make sample true) v = fan_one v sample_options
+cases_one (command.Make sample true) v = fan_one v sample_options Counted
 
 command_one : (c : Command) (bytes : List ℕ) → HasOne (command_answer c bytes)
 command_one (command.Fan workers table steps certs) bytes = reads_one (cases_of (command.Fan workers table steps certs)) bytes (λ v is. cases_one (command.Fan workers table steps certs) v)

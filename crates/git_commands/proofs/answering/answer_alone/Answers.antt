@@ -13,4 +13,4 @@ returns-in-Refused-clause-answers g c =
 
 pub returns-in_ok-fan_alone-in-Input-clause-answers : goal.returns-in_ok-fan_alone-in-Input-clause-answers
 returns-in_ok-fan_alone-in-Input-clause-answers g c =
-    input_answered (Fan 1 c.args.table c.args.steps c.args.certs) (g.S.Source.left c.args.source.now) c.in-Input.input c.in_ok-fan_alone-in-Input.field-0.status c.in_ok-fan_alone-in-Input.field-0.text.items tt (subst (IsReading (g.S.Source.left c.args.source.now)) c.in-Input.is c.in_ok-reply.ensures.reading) (subst (λ (o : Output). spelled c.in-Input.input (fan_of (options c.args.table c.args.steps o) c.in-Input.input) c.in_ok-fan_alone-in-Input.field-0.status c.in_ok-fan_alone-in-Input.field-0.text.items) c.output.ensures c.in_ok-fan_alone-in-Input.ensures)
+    input_answered (Fan 1 c.args.table c.args.steps c.args.certs) (g.S.Source.left c.args.source.now) c.in-Input.input c.in_ok-fan_alone-in-Input.field-0.status c.in_ok-fan_alone-in-Input.field-0.text.items tt (subst (IsReading (g.S.Source.left c.args.source.now)) c.in-Input.is c.in_ok-reply.ensures.reading) (subst (λ (o : Output). spelled c.in-Input.input (fan_of (options c.args.table c.args.steps) o c.in-Input.input) c.in_ok-fan_alone-in-Input.field-0.status c.in_ok-fan_alone-in-Input.field-0.text.items) c.output.ensures c.in_ok-fan_alone-in-Input.ensures)

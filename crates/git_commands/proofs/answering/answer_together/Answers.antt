@@ -13,4 +13,4 @@ returns-in-Refused-clause-answers g c =
 
 pub returns-in_ok-fan_together-in-Input-clause-answers : goal.returns-in_ok-fan_together-in-Input-clause-answers
 returns-in_ok-fan_together-in-Input-clause-answers g c =
-    input_answered (Fan c.args.workers c.args.table c.args.steps c.args.certs) (g.S.Source.left c.args.source.now) c.in-Input.input c.in_ok-fan_together-in-Input.field-0.status c.in_ok-fan_together-in-Input.field-0.text.items tt (subst (IsReading (g.S.Source.left c.args.source.now)) c.in-Input.is c.in_ok-reply.ensures.reading) (subst (λ (o : Output). spelled c.in-Input.input (fan_of (options c.args.table c.args.steps o) c.in-Input.input) c.in_ok-fan_together-in-Input.field-0.status c.in_ok-fan_together-in-Input.field-0.text.items) c.output-output.ensures c.in_ok-fan_together-in-Input.ensures)
+    input_answered (Fan c.args.workers c.args.table c.args.steps c.args.certs) (g.S.Source.left c.args.source.now) c.in-Input.input c.in_ok-fan_together-in-Input.field-0.status c.in_ok-fan_together-in-Input.field-0.text.items tt (subst (IsReading (g.S.Source.left c.args.source.now)) c.in-Input.is c.in_ok-reply.ensures.reading) (subst (λ (o : Output). spelled c.in-Input.input (fan_of (options c.args.table c.args.steps) o c.in-Input.input) c.in_ok-fan_together-in-Input.field-0.status c.in_ok-fan_together-in-Input.field-0.text.items) c.output-output.ensures c.in_ok-fan_together-in-Input.ensures)

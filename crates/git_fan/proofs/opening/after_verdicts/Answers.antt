@@ -1,6 +1,5 @@
-use Rattle.std.proofs.Common.{◌≡◌, ◌∙◌, List, ℕ, refl, sym, ap, subst}
+use Rattle.std.proofs.Common.{◌≡◌, ◌∙◌, List, sym, ap, subst}
 use Rattle.std.specs.Prelude.{Contains}
-use Rattle.git_grading.specs.Gradings.{Degrees}
 use Rattle.git_orbit.specs.Orbits.{AreFaces, AreOrbitCones, IsNewFault}
 use Rattle.git_input.specs.Inputs.{InputValue}
 use Rattle.git_facecert.specs.declared.certificate.FaceVerdict.{FaceVerdict}
@@ -31,19 +30,19 @@ after_cones-requires c =
     }
 
 pub returns-in-Ok : goal.returns-in-Ok
-returns-in-Ok c s output =
+returns-in-Ok c s =
     let v = c.args.input.now in
-    let n = options c.args.table s output in
+    let n = options c.args.table s in
     let free : AreFreeMasks c.args.faces.items c.deref-masks.result.now = c.deref-masks.ensures.value ∙ subst (λ (fs : List FaceVerdict). AreFreeMasks fs c.in_ok-found.found.items) c.deref-listed.ensures.value c.in_ok-found.ensures in
     let cones : AreOrbitCones v.degrees.k v.degrees.columns (Contains c.deref-masks.result.now) c.in-Ok.cones.list = subst (λ (w : InputValue). AreOrbitCones w.degrees.k w.degrees.columns (Contains c.deref-masks.result.now) c.in-Ok.cones.list) c.input.view_is c.in-Ok.ensures.cones in
     let k : c.in-Ok.cones.k ≡ v.degrees.k = subst (λ (w : InputValue). c.in-Ok.cones.k ≡ w.degrees.k) c.input.view_is c.in-Ok.ensures.k in
     opened_passed v n (wide_cone v) (after_cones n v) c.after_cones.result
     (none_wide v c.args.faces.items c.requires.verdicts c.deref-masks.result.now free c.requires.grading c.in-Ok.cones.list cones)
-    (c.after_cones.ensures v s output (record { k = k; cones = cones_of_a_faces v c.args.faces.items c.requires.verdicts c.deref-masks.result.now free c.in-Ok.cones.list cones }) c.requires.verdicts (sym (ap (λ (w : InputValue). w.degrees) c.input.view_is)))
+    (c.after_cones.ensures v s (record { k = k; cones = cones_of_a_faces v c.args.faces.items c.requires.verdicts c.deref-masks.result.now free c.in-Ok.cones.list cones }) c.requires.verdicts (sym (ap (λ (w : InputValue). w.degrees) c.input.view_is)))
 
 pub returns-in_ok-reply-in-Err : goal.returns-in_ok-reply-in-Err
-returns-in_ok-reply-in-Err c s output =
+returns-in_ok-reply-in-Err c s =
     let v = c.args.input.now in
     let free : AreFreeMasks c.args.faces.items c.deref-masks.result.now = c.deref-masks.ensures.value ∙ subst (λ (fs : List FaceVerdict). AreFreeMasks fs c.in_ok-found.found.items) c.deref-listed.ensures.value c.in_ok-found.ensures in
     let fault : IsNewFault v.degrees.k v.degrees.columns (Contains c.deref-masks.result.now) c.in-Err.fault = subst (λ (w : InputValue). IsNewFault w.degrees.k w.degrees.columns (Contains c.deref-masks.result.now) c.in-Err.fault) c.input.view_is c.in-Err.ensures.fault in
-    wide_reply v c.args.faces.items c.requires.verdicts c.deref-masks.result.now free (options c.args.table s output) c.in_ok-reply-in-Err.reply.status c.in_ok-reply-in-Err.reply.text.items c.in-Err.fault fault c.in_ok-reply-in-Err.ensures
+    wide_reply v c.args.faces.items c.requires.verdicts c.deref-masks.result.now free (options c.args.table s) c.in_ok-reply-in-Err.reply.status c.in_ok-reply-in-Err.reply.text.items c.in-Err.fault fault c.in_ok-reply-in-Err.ensures

@@ -1,4 +1,4 @@
-use Rattle.std.proofs.Common.{◌≤◌, length, ap, arith}
+use Rattle.std.proofs.Common.{length, ap, arith}
 use Rattle.git_orbit.proofs.Fans.{fan_few}
 use Rattle.git_fan.proofs.opening.width.Goals as goal
 

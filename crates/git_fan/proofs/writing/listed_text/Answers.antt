@@ -8,7 +8,7 @@ use Rattle.git_answers.specs.Fan.{written}
 use Rattle.git_replies.specs.Counts.{counts_text}
 use Rattle.git_listing.specs.ListingText.{listing_text}
 use Rattle.git_answers.specs.declared.output.Output.{Output}
-use Rattle.git_fan.proofs.closing.listed_text.Goals as goal
+use Rattle.git_fan.proofs.writing.listed_text.Goals as goal
 
 pub returns-in-Plain : goal.returns-in-Plain
 returns-in-Plain c v verdicts =
