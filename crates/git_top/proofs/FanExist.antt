@@ -116,7 +116,7 @@ module _ (v : InputValue) (n : Options) (g : IsGrading v.degrees.k v.degrees.col
     | inr s ↦ (let t = stop_of v n.steps (whole_face v) s in inl (says t.0 (stop_text t.0 (whole_face v)), (t.0, t.1, refl)))
   ]
 
-  whole_ends : Passes (whole_stops v n) → RunEnds v.generators n.steps (whole_face v)
+  pub whole_ends : Passes (whole_stops v n) → RunEnds v.generators n.steps (whole_face v)
   whole_ends p = elim (stops (start_at v (whole_face v)) n.steps) [
     | inl e ↦ record { steps = e.0; ends = e.1 }
     | inr s ↦ (let t = stop_of v n.steps (whole_face v) s in absurd (p (says t.0 (stop_text t.0 (whole_face v))) (t.0, t.1, refl)))
@@ -161,7 +161,7 @@ module _ (v : InputValue) (n : Options) (g : IsGrading v.degrees.k v.degrees.col
         inl (says t.0 (stop_text t.0 f.mask), (f.mask, first_other v n.steps sw.rest f.mask t.0 sw.others f.before t.1, (t.0, t.1, refl))))
   ]
 
-  all_run : RunEnds v.generators n.steps (whole_face v) → Passes (other_stops v n) → (m : ℕ) → IsFullFace v m → RunEnds v.generators n.steps m
+  pub all_run : RunEnds v.generators n.steps (whole_face v) → Passes (other_stops v n) → (m : ℕ) → IsFullFace v m → RunEnds v.generators n.steps m
   all_run e p m f = elim (cases_eq m (whole_face v)) [
     | inl same ↦ subst (RunEnds v.generators n.steps) (sym same) e
     | inr other ↦ elim (first_or_all v.generators n.steps sw.rest) [

@@ -21,7 +21,7 @@ use Rattle.git_words.specs.declared.commands.Sample.{Sample}
 use Rattle.git_words.specs.declared.commands.Command.TheVariants as command
 use Rattle.git_words.specs.Laws.{IsSampleInRange}
 use Rattle.git_make.specs.Samples.{IsSample}
-use Rattle.git_top.specs.Run.{answer_to}
+use Rattle.git_top.specs.Run.{answer_to, reply_to}
 use Rattle.git_commands.specs.Commands.{command_answer}
 
 -- words and bytes have one answer at most: its status, its text, and which certificates follow
@@ -31,6 +31,10 @@ OneAnswer = (words : List (List ℕ)) (bytes : List ℕ) → HasOne (answer_to w
 -- and one at least
 abbrev pub EachHasAnAnswer : Type 0
 EachHasAnAnswer = (words : List (List ℕ)) (bytes : List ℕ) → HasSome (answer_to words bytes)
+
+-- some status and some text are the reply to them, with the certificates that follow
+abbrev pub EachHasAReply : Type 0
+EachHasAReply = (words : List (List ℕ)) (bytes : List ℕ) → (s : Status) × (text : List ℕ) × reply_to words bytes s text
 
 -- the status has a code below those of faults of reading, of writing and of memory
 abbrev pub IsBelowFaults : Status → Type 0
