@@ -6,3 +6,6 @@ mod finding;
 pub mod laws;
 
 pub use finding::{Finding, Reason, earlier};
+
+#[cfg(test)]
+mod tests;
