@@ -7,7 +7,7 @@ use Rattle.git_base.specs.Status.{code_of}
 use Rattle.git_machine.specs.Signatures.{Signature}
 use Rattle.git_chamber.specs.declared.cell.Cell.{Cell}
 use Rattle.git_chamber.specs.declared.cell.Cell.TheVariants as cell
-use Rattle.git_orbit.specs.Orbits.{Fan}
+use Rattle.git_orbit.specs.Orbits as orbits
 use Rattle.git_listing.specs.Listings.{Listing}
 use Rattle.git_input.specs.Inputs.{InputValue}
 use Rattle.git_words.specs.declared.commands.Command.{Command}
@@ -57,7 +57,7 @@ module _ (v : InputValue) (n : Options) (o : Outcome) where
   low_refuses (inl stop) = along o _ stop.2 (low_stop v n.steps _ stop.0 stop.1)
   low_refuses (inr (p, rest)) = low_whole rest
 
-  low_listed : (of_listing : Fan → Listing → Case) → ((fan : Fan) (l : Listing) → of_listing fan l o → IsBelowFaults o.status) → listed_then n of_listing v o → IsBelowFaults o.status
+  low_listed : (of_listing : orbits.Fan → Listing → Case) → ((fan : orbits.Fan) (l : Listing) → of_listing fan l o → IsBelowFaults o.status) → listed_then n of_listing v o → IsBelowFaults o.status
   low_listed of_listing low (inl refused) = low_refuses refused
   low_listed of_listing low (inr (p, l)) = low l.0 l.1 l.3
 

@@ -75,12 +75,12 @@ level a b Greater p is turned here other = absurd (here refl)
 up_same : (a b : Signature) → UpTo a b → UpTo b a → a ≡ b
 up_same a b p q = (equal_words a b).0 (level_words a b (ap is_eq (level a b (signature_cmp a b) (signature_cmp b a) refl (signature_total.antisymm a b) p q)))
 
-refuses_one : (sig : Signature) (c : Cell) → HasOne (Refuses sig c)
-refuses_one sig (cell.Good c) x y p q = absurd p
-refuses_one sig (cell.Wide at) x y p q = p ∙ sym q
+refusal_one : (sig : Signature) (c : Cell) → HasOne (Refuses sig c)
+refusal_one sig (cell.Good c) x y p q = absurd p
+refusal_one sig (cell.Wide at) x y p q = p ∙ sym q
 
 refused_one : (fan : Fan) (sig : Signature) → HasOne (IsRefused fan sig)
-refused_one fan sig = one_by (IsCell fan sig) (Refuses sig) (one_cell fan sig) (refuses_one sig)
+refused_one fan sig = one_by (IsCell fan sig) (Refuses sig) (one_cell fan sig) (refusal_one sig)
 
 bad_one : (fan : Fan) (first : Signature) → HasOne (λ o. (sig : Signature) × IsFirst UpTo (IsBad fan first) sig × IsRefused fan sig o)
 bad_one fan first = one_by (IsFirst UpTo (IsBad fan first)) (IsRefused fan) (one_first UpTo (IsBad fan first) up_same) (refused_one fan)
