@@ -37,6 +37,12 @@ fn fan_with_workers(rt: HostRuntime) {
         steps: 20_000_000,
         certs: false,
     };
+    let most = Command::Fan {
+        workers: 64,
+        table: 4096,
+        steps: 20_000_000,
+        certs: false,
+    };
     assert!(rt;
         spell(&[
             (&["fan"], FAN),
@@ -45,6 +51,7 @@ fn fan_with_workers(rt: HostRuntime) {
             (&["fan", "--workers", "2"], two),
             (&["fan", "--workers", "000000002"], two),
             (&["fan", "--steps=20000000", "--workers=2"], two),
+            (&["fan", "--workers=64"], most),
         ])
     );
 }
