@@ -1,0 +1,3 @@
+pub mod Torsions
+pub mod Degrees
+pub mod Laws
