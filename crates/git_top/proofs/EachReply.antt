@@ -41,7 +41,7 @@ use Rattle.git_replies.specs.Reads.{reads}
 use Rattle.git_answers.specs.Ends.{IsTailOf}
 use Rattle.git_answers.specs.Verdicts.{IsFullFace, IsVerdict, AreVerdicts, IsTail, whole_face}
 use Rattle.git_answers.specs.Faces.{face_stops, faces_of}
-use Rattle.git_answers.specs.Fan.{Options, options, written, Refuses, has_monomial, other_stops, after_reach, after_cones, after_verdicts, after_whole, fan_of}
+use Rattle.git_answers.specs.Fan.{Options, options, written, Refuses, has_monomial, whole_stops, not_good, after_cones, after_verdicts, after_whole, refuses, fan_of}
 use Rattle.git_answers.specs.declared.output.Output.{Output}
 use Rattle.git_answers.specs.declared.output.Output.TheVariants.{Plain, Certified, Counted}
 use Rattle.git_fan.proofs.FullFaces.{whole_full, first_full}
@@ -137,40 +137,49 @@ module _ (v : InputValue) where
     refused_tail sig (cell.Good c) o r = absurd r
     refused_tail sig (cell.Wide at) o r = none o _ _ r
 
-    module _ (runs : (m : ℕ) → IsFullFace v m → RunEnds v.generators n.steps m) where
-      written_tail : (output : Output) (l : Listing) → HasTail (written output l).tail
-      written_tail Plain l = ([], refl)
-      written_tail Certified l = certified_tail n.steps few g gens runs
-      written_tail Counted l = ([], refl)
+    bad_tail : (o : Outcome) → not_good v o → HasTail o.tail
+    bad_tail o bad = (let refused = bad.3.2 in refused_tail bad.3.0 refused.0 o refused.2)
 
-      reach_tail : (o : Outcome) → after_reach n v o → HasTail o.tail
-      reach_tail o (inl bad) = (let refused = bad.3.2 in refused_tail bad.3.0 refused.0 o refused.2)
-      reach_tail o (inr d) = (let l = d.1.3 in along o (written n.output l.0) l.2 (written_tail n.output l.0))
+    cones_tail : (o : Outcome) → after_cones n v o → HasTail o.tail
+    cones_tail o (inl wide) = none o _ _ wide.3
+    cones_tail o (inr (p, inl more)) = none o _ _ more.4
+    cones_tail o (inr (p, inr (q, bad))) = bad_tail o bad
 
-      cones_tail : (o : Outcome) → after_cones n v o → HasTail o.tail
-      cones_tail o (inl wide) = none o _ _ wide.3
-      cones_tail o (inr (p, inl more)) = none o _ _ more.4
-      cones_tail o (inr (p, inr (q, d))) = reach_tail o d
-
-      verdicts_tail : (o : Outcome) → after_verdicts n v o → HasTail o.tail
-      verdicts_tail o (inl wide) = none o _ _ wide.2.2
-      verdicts_tail o (inr d) = cones_tail o d.1
+    verdicts_tail : (o : Outcome) → after_verdicts n v o → HasTail o.tail
+    verdicts_tail o (inl wide) = none o _ _ wide.2.2
+    verdicts_tail o (inr d) = cones_tail o d.1
 
     whole_tail : (o : Outcome) → RunEnds v.generators n.steps (whole_face v) → after_whole n v o → HasTail o.tail
     whole_tail o e (inl m) = (let f = verdict_at n.steps few g gens (whole_face v) (whole_full v g) e in along o _ m.1 (block_text f.0, (f.0, f.1, f.2, refl)))
     whole_tail o e (inr (p, inl s)) = none o _ _ s.2.2
-    whole_tail o e (inr (p, inr (q, d))) = verdicts_tail (all_run v n g gens e q) o d
+    whole_tail o e (inr (p, inr (q, d))) = verdicts_tail o d
 
-    fan_tail : (o : Outcome) → fan_of n v o → HasTail o.tail
-    fan_tail o (inl s) = none o _ _ s.2
-    fan_tail o (inr d) = whole_tail o (whole_ends v n g gens d.0) d.1
+    refuses_tail : (o : Outcome) → refuses n v o → HasTail o.tail
+    refuses_tail o (inl s) = none o _ _ s.2
+    refuses_tail o (inr d) = whole_tail o (whole_ends v n g gens d.0) d.1
+
+    -- where nothing refuses, all runs end
+    runs_end : Passes (refuses n v) → (m : ℕ) → IsFullFace v m → RunEnds v.generators n.steps m
+    runs_end p =
+        let whole : Passes (whole_stops v n) = λ u w. p u (inl w) in
+        let monomial : Passes (has_monomial v) = λ u w. p u (inr (whole, inl w)) in
+        all_run v n g gens (whole_ends v n g gens whole) (λ u w. p u (inr (whole, inr (monomial, inl w))))
+
+    written_tail : (output : Output) (l : Listing) → Passes (refuses n v) → HasTail (written output l).tail
+    written_tail Plain l p = ([], refl)
+    written_tail Certified l p = certified_tail n.steps few g gens (runs_end p)
+    written_tail Counted l p = ([], refl)
+
+    fan_tail : (output : Output) (o : Outcome) → fan_of n output v o → HasTail o.tail
+    fan_tail output o (inl refused) = refuses_tail o refused
+    fan_tail output o (inr (p, l)) = along o (written output l.1) l.3 (written_tail output l.1 p)
 
 -- ---- commands
 cases_tail : (c : Command) (v : InputValue) (o : Outcome) → IsInRange c → IsGrading v.degrees.k v.degrees.columns → AreGenerators v.degrees v.generators → cases_of c v o → HasTail v o.tail
-cases_tail (Fan workers table steps certs) v o range g gens h = fan_tail v (options table steps (output_of certs)) range.5 g gens o h
+cases_tail (Fan workers table steps certs) v o range g gens h = fan_tail v (options table steps) range.5 g gens (output_of certs) o h
 cases_tail (Faces steps) v o range g gens h = faces_tail v steps range.1 g gens o h
 cases_tail (Make sample false) v o range g gens h = none v o _ _ h
-cases_tail (Make sample true) v o range g gens h = fan_tail v sample_options (omega arith) g gens o h
+cases_tail (Make sample true) v o range g gens h = fan_tail v sample_options (omega arith) g gens Counted o h
 
 module _ (words : List (List ℕ)) (bytes : List ℕ) where
   abbrev HasTold : Tail → Type 0
