@@ -1,0 +1,4 @@
+pub mod Stable
+pub mod Bunches
+pub mod BunchText
+pub mod Laws

@@ -1,0 +1,5 @@
+pub mod Mov
+pub mod Parts
+pub mod Moving
+pub mod Text
+pub mod Laws
