@@ -2,7 +2,11 @@
 #![tactic(auto)]
 
 mod cones;
+mod faces;
 mod meeting;
+mod sets;
 mod verdict;
 
+pub use faces::{FaceOf, all_faces};
+pub use sets::{AllFault, FACES};
 pub use verdict::{FanVerdict, VerdictFault, fan_verdict};
