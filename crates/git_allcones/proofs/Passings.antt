@@ -93,15 +93,6 @@ pub record ArePassed (k : ℕ) (facets rays : List Vector) (i : ℕ) (lists : Li
   pub same : SameLists (one_pass (drop i facets) lists) (one_pass facets (rays ∷ []))
   pub short : AreShortLists k lists
 
-pub passed_first : (k : ℕ) (facets rays : List Vector) (lists : List (List Vector)) → All (IsShort k) rays → lists ≡ rays ∷ [] → ArePassed k facets rays 0 lists
-passed_first k facets rays lists short is = record {
-  same = subst (λ (u : List (List Vector)). SameLists (one_pass facets u) (one_pass facets (rays ∷ []))) (sym is) (same_itself (one_pass facets (rays ∷ [])));
-  short = λ vs c. elim (as_member (rays ∷ []) (subst (λ (u : List (List Vector)). Contains u vs) is c)) [
-    | inl e ↦ subst (All (IsShort k)) e short
-    | inr o ↦ absurd o
-  ];
-}
-
 left_after : (facets : List Vector) (i : ℕ) (n : Vector) → i < length facets → n ≡ get_or facets i n → drop i facets ≡ n ∷ drop (i + 1) facets
 left_after facets i n h at = drop_more facets i n h ∙ ap (λ (u : Vector). u ∷ drop (i + 1) facets) (sym at)
 
