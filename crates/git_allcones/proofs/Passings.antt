@@ -14,9 +14,6 @@ use Rattle.git_cone_faces.proofs.Walls.{wall_member}
 use Rattle.git_allcones.specs.Sets.{SameLists, vectors_of}
 use Rattle.git_allcones.proofs.Sorts.{from_seen, seen}
 
-pub same_itself : (lists : List (List Vector)) → SameLists lists lists
-same_itself lists vs = (λ c. c, λ c. c)
-
 pub same_trans : (a b c : List (List Vector)) → SameLists a b → SameLists b c → SameLists a c
 same_trans a b c s t vs = (λ m. (t vs).0 ((s vs).0 m), λ m. (s vs).1 ((t vs).1 m))
 
