@@ -41,9 +41,6 @@ rank_within k given n have r =
     let run = elimination_of_independent k c (record { each = λ v m. have.each v (as_member given (all_member (Contains given) v c r.reached.from m)) }) r.reached.independent in
     let s = run.size in let e = r.reached.count in omega (arith, s, e)
 
-pub short_lengths : (k : ℕ) (vs : List Vector) → All (IsShort k) vs → OfLength k vs
-short_lengths k vs short = record { each = λ v m. (all_member (IsShort k) v vs short m).entries }
-
 one_rank : (k : ℕ) (given : List Vector) (m n : ℕ) → OfLength k given → IsRank k given m → IsRank k given n → m ≡ n
 one_rank k given m n have p q =
     let a = rank_bound k given m n have p q.reached in
@@ -73,9 +70,6 @@ cone_left c (u ∷ us) vs (inr m) = inr (cone_left c us vs m)
 cone_last : (c : Cone) (us : List Cone) → Member c (us ++ c ∷ [])
 cone_last c [] = inl refl
 cone_last c (u ∷ us) = inr (cone_last c us)
-
-pub none_yet : (k : ℕ) → AreFacesOf k [] []
-none_yet k vs = (λ c. absurd (as_member {X = List Vector} {x = vs} [] c), λ f. absurd (as_member {X = Cone} {x = f.cone} [] f.listed))
 
 pub some_of_more : (k : ℕ) (cones : List Cone) (C : Cone) (lists faces : List (List Vector)) → AreFacesOf k cones lists → AreFacesOfOne k C faces
     → AreFacesOf k (cones ++ C ∷ []) (lists ++ faces)

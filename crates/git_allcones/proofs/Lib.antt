@@ -1,4 +1,5 @@
 pub mod AllFaces
+pub mod FaceLists
 pub mod Meets
 pub mod Pairs
 pub mod Passings

@@ -14,9 +14,6 @@ use Rattle.git_cone_faces.proofs.Walls.{wall_member}
 use Rattle.git_allcones.specs.Sets.{SameLists, vectors_of}
 use Rattle.git_allcones.proofs.Sorts.{from_seen, seen}
 
-pub same_itself : (lists : List (List Vector)) → SameLists lists lists
-same_itself lists vs = (λ c. c, λ c. c)
-
 pub same_trans : (a b c : List (List Vector)) → SameLists a b → SameLists b c → SameLists a c
 same_trans a b c s t vs = (λ m. (t vs).0 ((s vs).0 m), λ m. (s vs).1 ((t vs).1 m))
 
@@ -92,15 +89,6 @@ short_same k a b s short vs c = short vs ((s vs).0 c)
 pub record ArePassed (k : ℕ) (facets rays : List Vector) (i : ℕ) (lists : List (List Vector)) : Type 0 where
   pub same : SameLists (one_pass (drop i facets) lists) (one_pass facets (rays ∷ []))
   pub short : AreShortLists k lists
-
-pub passed_first : (k : ℕ) (facets rays : List Vector) (lists : List (List Vector)) → All (IsShort k) rays → lists ≡ rays ∷ [] → ArePassed k facets rays 0 lists
-passed_first k facets rays lists short is = record {
-  same = subst (λ (u : List (List Vector)). SameLists (one_pass facets u) (one_pass facets (rays ∷ []))) (sym is) (same_itself (one_pass facets (rays ∷ [])));
-  short = λ vs c. elim (as_member (rays ∷ []) (subst (λ (u : List (List Vector)). Contains u vs) is c)) [
-    | inl e ↦ subst (All (IsShort k)) e short
-    | inr o ↦ absurd o
-  ];
-}
 
 left_after : (facets : List Vector) (i : ℕ) (n : Vector) → i < length facets → n ≡ get_or facets i n → drop i facets ≡ n ∷ drop (i + 1) facets
 left_after facets i n h at = drop_more facets i n h ∙ ap (λ (u : Vector). u ∷ drop (i + 1) facets) (sym at)

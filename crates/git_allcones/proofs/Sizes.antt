@@ -1,17 +1,15 @@
 -- Sizes of lists of lists: distinct members are no more than all.
-use Rattle.std.proofs.Common.{Contains, List, [], ◌+◌, ◌<◌, ◌≤◌, ◌∷◌, ◌≡◌, ◌≢◌, ◌∙◌, ◌++◌, ap, arith, get_or, inl, inr, length, map, refl, suc, sym, take, zero, ℕ}
+use Rattle.std.proofs.Common.{List, [], ◌+◌, ◌<◌, ◌≤◌, ◌∷◌, ◌≡◌, ◌≢◌, ◌∙◌, ◌++◌, ap, arith, get_or, inl, inr, length, map, refl, suc, sym, take, zero, ℕ}
 use Rattle.std.proofs.lemmas.List.{map-append, take_more}
 use Rattle.std.specs.Global.{Vec}
 use Rattle.git_ints.specs.declared.vector.IVec.{IVec}
 use Rattle.git_allcones.specs.Sets.{vectors_of}
 use Rattle.git_defs.specs.Vectors.{Vector}
 use Rattle.git_lemmas.specs.Members.{Member}
-use Rattle.git_lemmas.proofs.Members.{as_member, contained}
-use Rattle.git_lemmas.proofs.Sorting.{Ascends, ascends_of_pairs}
-use Rattle.git_allcones.specs.Faces.{HaveMany, IsAllFault, lists_size}
+use Rattle.git_lemmas.proofs.Sorting.{Ascends}
+use Rattle.git_allcones.specs.Faces.{IsAllFault, lists_size}
 use Rattle.git_allcones.specs.declared.sets.AllFault.{AllFault}
 use Rattle.git_allcones.specs.declared.sets.AllFault.TheVariants.{TooMany, NoMemory}
-use Rattle.git_allcones.specs.declared.sets.TheConstants.{FACES}
 
 abbrev pub differ : List Vector → List Vector → Type 0
 differ us vs = us ≢ vs
@@ -47,13 +45,6 @@ size_within (u ∷ us) lists a within =
 pub many_of : (P Q : List Vector → Type 0) → ((vs : List Vector) → P vs → Q vs) → (f : AllFault) → IsAllFault P f → IsAllFault Q f
 many_of P Q to TooMany many = record { lists = many.lists; distinct = many.distinct; each = λ vs c. to vs (many.each vs c); many = many.many }
 many_of P Q to NoMemory many = tt
-
--- many lists of some are more than the limit
-pub more_of_many : (lists : List (List Vector)) → HaveMany (Contains lists) → FACES < lists_size lists
-more_of_many lists many =
-    let least = size_within many.lists lists (ascends_of_pairs differ many.lists many.distinct)
-    (λ vs m. as_member lists (many.each vs (contained many.lists m))) in
-    let h = many.many in omega (arith, least, h)
 
 -- ---- the size of a front
 size_append : (a b : List (List Vector)) → lists_size (a ++ b) ≡ lists_size a + lists_size b

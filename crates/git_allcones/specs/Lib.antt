@@ -1,5 +1,6 @@
 pub mod Cones
 pub mod Faces
+pub mod Laws
 pub mod Meets
 pub mod Sets
 pub mod Verdicts
