@@ -1,0 +1,4 @@
+pub mod Certs
+pub mod Exact
+pub mod LineCounts
+pub mod Reasons
