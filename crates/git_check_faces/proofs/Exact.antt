@@ -21,7 +21,7 @@ use Rattle.git_answers.specs.Verdicts.{AreVerdicts, IsFullFace, IsVerdict, whole
 use Rattle.git_asked.specs.declared.finding.Reason.{Reason}
 use Rattle.git_asked.specs.declared.finding.Reason.TheVariants.{VerdictMissing, CertRefused, Monomial}
 use Rattle.git_asked.proofs.Places.{all_at, all_got, map_at, map_from, place_of}
-use Rattle.git_check_faces.specs.Faces.{AsksFaces, AsksPlace, face_line}
+use Rattle.git_check_faces.specs.Faces.{AsksFaces, face_line}
 use Rattle.git_check_faces.specs.Laws.{AllHoldsExactlyOfTheVerdicts}
 use Rattle.git_check_faces.proofs.Reasons.{end_holds, face_holds, in_place}
 

@@ -1,5 +1,5 @@
 -- What fails first of a certificate, and at the end of certificates.
-use Rattle.std.proofs.Common.{◌≡◌, ◌<◌, ◌≤◌, ◌^◌, ℕ, List, length, refl, subst, sym, arith}
+use Rattle.std.proofs.Common.{◌≡◌, ◌<◌, ◌≤◌, ℕ, List, length, subst, arith}
 use Rattle.std.specs.Prelude.{Some, slice_get}
 use Rattle.git_algebra.specs.Polynomials.{Polynomial}
 use Rattle.git_input.specs.Inputs.{InputValue}

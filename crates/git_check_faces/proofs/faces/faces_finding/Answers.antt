@@ -1,4 +1,4 @@
-use Rattle.std.proofs.Common.{◌≡◌, ◌∙◌, ◌+◌, ◌<◌, ◌≤◌, ◌^◌, ℕ, ap, arith, length, subst, sym}
+use Rattle.std.proofs.Common.{◌≡◌, ◌∙◌, ◌+◌, ◌≤◌, ℕ, ap, arith, length, subst, sym}
 use Rattle.std.specs.Prelude.{Option}
 use Rattle.git_asked.specs.Findings.{Finds}
 use Rattle.git_asked.specs.declared.finding.Reason.{Reason}
