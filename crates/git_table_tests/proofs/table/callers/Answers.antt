@@ -1,8 +1,8 @@
 use Rattle.std.proofs.Common.{◌≡◌, ◌+◌, List, [], ◌∷◌, ◌++◌, length, length-append, sym, ap, ◌∙◌, subst, arith, rules, None, false}
 use Rattle.std.specs.List.{All}
 use Rattle.std.proofs.lemmas.List.Elements.{All-push}
-use Rattle.git_table.specs.declared.tests.Star.{Star}
-use Rattle.git_table.specs.declared.tests.Caller.{Caller}
+use Rattle.git_table_tests.specs.declared.table.Star.{Star}
+use Rattle.git_table_tests.specs.declared.table.Caller.{Caller}
 use Rattle.git_table.specs.Views.{FrontierView, SeatView}
 use Rattle.git_table.specs.Calls.{IsOf}
 use Rattle.git_table_tests.specs.Spokes.{IsCaller}

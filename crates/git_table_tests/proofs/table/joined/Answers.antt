@@ -1,8 +1,8 @@
 use Rattle.std.proofs.Common.{◌≡◌, ◌+◌, List, [], ◌∷◌, ◌++◌, length, length-append, ap, ◌∙◌, arith, rules, Some, false}
 use Rattle.std.specs.List.{All}
 use Rattle.std.proofs.lemmas.List.Elements.{All-pop}
-use Rattle.git_table.specs.declared.tests.Star.{Star}
-use Rattle.git_table.specs.declared.tests.Caller.{Caller}
+use Rattle.git_table_tests.specs.declared.table.Star.{Star}
+use Rattle.git_table_tests.specs.declared.table.Caller.{Caller}
 use Rattle.git_table.specs.Views.{FrontierView, SeatView}
 use Rattle.git_table_tests.specs.Spokes.{IsCaller}
 use Rattle.git_table_tests.proofs.table.joined.Goals as goal

@@ -1,7 +1,7 @@
 use Rattle.std.proofs.Common.{◌≡◌, [], ◌∷◌, ◌++◌, rules, Some, subst, sym}
 use Rattle.std.specs.List.{All}
 use Rattle.std.proofs.lemmas.List.Elements.{All-pop, All-push}
-use Rattle.git_table.specs.declared.tests.Caller.{Caller}
+use Rattle.git_table_tests.specs.declared.table.Caller.{Caller}
 use Rattle.git_table_tests.specs.Spokes.{IsCaller}
 use Rattle.git_table_tests.proofs.table.offer_by.Goals as goal
 

@@ -1,5 +1,5 @@
 use Rattle.std.proofs.Common.{◌<◌, length, sym, subst, arith, rules}
-use Rattle.git_table.specs.declared.tests.Caller.{Caller}
+use Rattle.git_table_tests.specs.declared.table.Caller.{Caller}
 use Rattle.git_table_tests.specs.Spokes.{IsCaller}
 use Rattle.git_table_tests.proofs.table.work_all.Goals as goal
 
