@@ -1,2 +1,3 @@
 pub mod FaceLaws
+pub mod OneFan
 pub mod Replies

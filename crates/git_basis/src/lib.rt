@@ -19,5 +19,5 @@ pub use laws::{
     ended_runs_are_groebner_bases, members_are_sums_of_products, runs_stop_in_one_way,
     states_fix_their_steps, steps_are_textbook_steps,
 };
-pub use running::{Ended, RUN_STEPS, eager_run, run};
+pub use running::{Ended, eager_run, run};
 pub use step::{Step, Trace};

@@ -15,6 +15,7 @@ use crate::fault::BasisFault;
 use crate::machine::Machine;
 use crate::step::{Step, Trace};
 use git_base::NoMemory;
+use git_limits::STEPS;
 use git_poly::Poly;
 use std::alloc::Global;
 
@@ -86,9 +87,6 @@ fn finished(alloc: Global, machine: Machine, steps: Vec<Step>) -> Result<Ended, 
     })
 }
 
-/// The most steps of a run.
-pub const RUN_STEPS: u64 = 20_000_000;
-
 /// The run with derivations, or none where a product might pass the limit.
 fn derive(alloc: Global, start: Deriver, limit: u64) -> Result<Option<Deriver>, BasisFault>
     requires few { length start.start + limit < 2 ^ 32 }
@@ -140,7 +138,7 @@ fn derived_run(alloc: Global, start: &[Poly], limit: u64) -> Result<Option<Ended
     requires nonzero { AreNonzero start.now }
     requires small { All (λ f. total_degree f ≤ RUN_DEGREE) start.now }
     requires few { length start.now < 65536 }
-    requires limit { limit ≤ RUN_STEPS }
+    requires limit { limit ≤ STEPS }
     ensures ended { IfOk result (λ o. IfSome o (λ e. Ends (first_state start.now) limit e.trace.steps.items)) }
     ensures members { IfOk result (λ o. IfSome o (λ e. e.members.items ≡ polynomials (after (first_state start.now) e.trace.steps.items).members)) }
     ensures unit { IfOk result (λ o. IfSome o (λ e. IsSome e.unit ↔ HasUnit (after (first_state start.now) e.trace.steps.items))) }
@@ -165,7 +163,7 @@ pub fn eager_run(alloc: Global, start: &[Poly], limit: u64) -> Result<Ended, Bas
     requires nonzero { AreNonzero start.now }
     requires small { All (λ f. total_degree f ≤ RUN_DEGREE) start.now }
     requires few { length start.now < 65536 }
-    requires limit { limit ≤ RUN_STEPS }
+    requires limit { limit ≤ STEPS }
     ensures ended { IfOk result (λ e. Ends (first_state start.now) limit e.trace.steps.items) }
     ensures members { IfOk result (λ e. e.members.items ≡ polynomials (after (first_state start.now) e.trace.steps.items).members) }
     ensures unit { IfOk result (λ e. IsSome e.unit ↔ HasUnit (after (first_state start.now) e.trace.steps.items)) }
@@ -189,7 +187,7 @@ pub fn run(alloc: Global, start: &[Poly], limit: u64) -> Result<Ended, BasisFaul
     requires nonzero { AreNonzero start.now }
     requires small { All (λ f. total_degree f ≤ RUN_DEGREE) start.now }
     requires few { length start.now < 65536 }
-    requires limit { limit ≤ RUN_STEPS }
+    requires limit { limit ≤ STEPS }
     ensures ended { IfOk result (λ e. Ends (first_state start.now) limit e.trace.steps.items) }
     ensures members { IfOk result (λ e. e.members.items ≡ polynomials (after (first_state start.now) e.trace.steps.items).members) }
     ensures unit { IfOk result (λ e. IsSome e.unit ↔ HasUnit (after (first_state start.now) e.trace.steps.items)) }

@@ -1,1 +1,8 @@
+mod Falling
+mod Changing
+mod Columns
+mod Gathers
+mod Grouping
+mod Naming
 mod Sides
+mod Within

@@ -1,4 +1,9 @@
 pub mod Stable
 pub mod Bunches
 pub mod BunchText
+pub mod Keys
+pub mod Least
+pub mod Groups
+pub mod Changes
+pub mod Views
 pub mod Laws

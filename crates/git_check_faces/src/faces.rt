@@ -1,12 +1,11 @@
 //! What is asked of certificates.
 ghost use Rattle.std.specs.Prelude.{◌≡◌, ◌↔◌, ◌<◌, ◌^◌, IfOk, IsTrue, Some, length, slice_get};
 ghost use Rattle.git_faces.specs.FullFaces.{AreFullFaces};
-ghost use Rattle.git_saturate.specs.Verdicts.{IsCertificate, IsFree};
-ghost use Rattle.git_certtext.specs.Blocks.{FitsBlock, FitsCerts, block_of, blocks_of};
+ghost use Rattle.git_certtext.specs.Blocks.{FitsBlock, FitsCerts, block_of, blocks_of, cert_of};
 ghost use Rattle.git_answers.specs.Verdicts.{whole_face};
 ghost use Rattle.git_asked.specs.Findings.{Finds};
 ghost use Rattle.git_check_chambers.specs.Families.{IsFirstReason};
-ghost use Rattle.git_check_faces.specs.Faces.{AsksEnd, AsksFaces, AsksOfFace, face_line, lines_of};
+ghost use Rattle.git_check_faces.specs.Faces.{AsksEnd, AsksFaces, AsksOfFace, IsAccepted, IsFreeCert, face_line, lines_of};
 
 use git_asked::{Finding, Reason, earlier};
 use git_base::NoMemory;
@@ -24,7 +23,7 @@ fn is_at(masks: &[u16], place: usize, mask: u16) -> bool
 
 /// Whether a certificate is free if it is that of the whole face.
 fn is_free_if_whole(face: &FaceVerdict, whole: u16) -> bool
-    ensures { IsTrue result ↔ (face.now.mask ≡ whole → IsFree face.now.cert) }
+    ensures { IsTrue result ↔ (face.now.mask ≡ whole → IsFreeCert (cert_of face.now.cert)) }
 {
     match face.cert {
         FaceCert::Free { .. } => true,
@@ -35,7 +34,7 @@ fn is_free_if_whole(face: &FaceVerdict, whole: u16) -> bool
 /// Whether the certificate of a face is accepted.
 fn is_accepted(alloc: Global, input: &Input, face: &FaceVerdict) -> Result<bool, NoMemory>
     requires { FitsBlock (length input.now.degrees.columns) (block_of face.now) }
-    ensures { IfOk result (λ b. IsTrue b ↔ IsCertificate input.now.generators face.now.mask face.now.cert) }
+    ensures { IfOk result (λ b. IsTrue b ↔ IsAccepted input.now.generators face.now.mask (cert_of face.now.cert)) }
 {
     match accept(alloc, input, face.mask, &face.cert)? {
         Accepted::Yes => Ok(true),
@@ -56,7 +55,7 @@ fn face_reason(
     requires masks { AreFullFaces input.now.degrees.k input.now.degrees.columns masks.now }
     requires whole { whole ≡ whole_face input.now }
     requires fits { FitsBlock (length input.now.degrees.columns) (block_of face.now) }
-    ensures { IfOk result (λ o. IsFirstReason (AsksOfFace input.now place face.now) o) }
+    ensures { IfOk result (λ o. IsFirstReason (AsksOfFace input.now place (block_of face.now)) o) }
 {
     if !is_at(masks, place, face.mask) {
         return Ok(Some(Reason::VerdictMissing));
@@ -72,8 +71,8 @@ fn face_reason(
 
 /// The number of lines of a certificate.
 fn lines(cert: &FaceCert) -> u32
-    requires { lines_of cert.now < 2 ^ 32 }
-    ensures { result ≡ lines_of cert.now }
+    requires { lines_of (cert_of cert.now) < 2 ^ 32 }
+    ensures { result ≡ lines_of (cert_of cert.now) }
 {
     match cert {
         FaceCert::Monomial { cofactors, .. } => 1 + cofactors.len() as u32,
@@ -84,7 +83,7 @@ fn lines(cert: &FaceCert) -> u32
 /// The first reason at the end of the certificates: that some full face has none.
 fn end_reason(input: &Input, masks: &[u16], certs: &[FaceVerdict]) -> Option<Reason>
     requires masks { AreFullFaces input.now.degrees.k input.now.degrees.columns masks.now }
-    ensures { IsFirstReason (AsksEnd input.now certs.now) result }
+    ensures { IsFirstReason (AsksEnd input.now (blocks_of certs.now)) result }
 {
     let _ = input;
     if certs.len() < masks.len() {
@@ -108,8 +107,8 @@ pub fn faces_finding(
     requires masks { AreFullFaces input.now.degrees.k input.now.degrees.columns masks.now }
     requires whole { whole ≡ whole_face input.now }
     requires fits { FitsCerts (length input.now.degrees.columns) (blocks_of certs.now) }
-    requires short { face_line certs.now (length certs.now) < 2 ^ 32 }
-    ensures { IfOk result (λ f. Finds (AsksFaces input.now certs.now) f) }
+    requires short { face_line (blocks_of certs.now) (length (blocks_of certs.now)) < 2 ^ 32 }
+    ensures { IfOk result (λ f. Finds (AsksFaces input.now (blocks_of certs.now)) f) }
 {
     let mut first = None;
     let mut line = 3;

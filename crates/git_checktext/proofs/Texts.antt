@@ -96,7 +96,7 @@ bad_text : ℕ → InputFault → List ℕ
 bad_text n (Bad line column kind) = fault_text n line column kind
 bad_text n NoMemory = []
 
-input_one : (bytes : List ℕ) → HasOne (NamesInputFault bytes)
+pub input_one : (bytes : List ℕ) → HasOne (NamesInputFault bytes)
 unfolding bad_text
 input_one bytes x y a b =
     let first = (front_faults bytes a.line a.column a.kind).0 a.first in
@@ -168,7 +168,7 @@ front_by bytes (Err f) line column kind h e =
     let same : f ≡ Bad line column kind = cc e in
     inr (subst (λ (g : InputFault). ReadsFront (whole_text bytes) (Err g)) same h)
 
-front_or_fault : (bytes : List ℕ) → ((v : InputValue) × ((used : ℕ) × IsFront bytes v used)) ⊎ ((line : ℕ) × (column : ℕ) × (kind : BadKind) × IsFirstFrontFault bytes line column kind)
+pub front_or_fault : (bytes : List ℕ) → ((v : InputValue) × ((used : ℕ) × IsFront bytes v used)) ⊎ ((line : ℕ) × (column : ℕ) × (kind : BadKind) × IsFirstFrontFault bytes line column kind)
 front_or_fault bytes = elim (input_or_fault bytes) [
   | inl i ↦ inl (
     i.0,

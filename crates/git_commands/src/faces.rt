@@ -4,10 +4,10 @@ ghost use Rattle.git_answers.specs.Ends.{spelled};
 ghost use Rattle.git_answers.specs.Faces.{faces_of};
 
 use git_base::{NoMemory, Status};
-use git_basis::RUN_STEPS;
 use git_certtext::print;
 use git_faces::{FacesFault, full_faces, verdicts};
 use git_input::Input;
+use git_limits::STEPS;
 use git_replies::{Reply, degree_line, steps_line};
 use std::alloc::Global;
 use std::marker::Sync;
@@ -20,7 +20,7 @@ pub(crate) fn certified<R: Threads + Sync>(
     input: &Input,
     steps: u64,
 ) -> Result<Reply, NoMemory>
-    requires { steps ≤ RUN_STEPS }
+    requires { steps ≤ STEPS }
     ensures { IfOk result (λ a. spelled input.now (faces_of steps input.now) a.status a.text.items) }
 {
     let masks = full_faces(alloc, &input.grading)?;

@@ -41,12 +41,12 @@ use Rattle.git_cover.proofs.Walks.{covered}
 use Rattle.git_covering.specs.Coverings.{AllInnerAreMatched, IsInListed, IsSharedWhole}
 
 -- ---- lists
-record From {X Y : Type 0} (f : X → Y) (xs : List X) (y : Y) : Type 0 where
-  one : X
-  member : Member one xs
-  is : f one ≡ y
+pub record From {X Y : Type 0} (f : X → Y) (xs : List X) (y : Y) : Type 0 where
+  pub one : X
+  pub member : Member one xs
+  pub is : f one ≡ y
 
-from_map : {X Y : Type 0} (f : X → Y) (xs : List X) (y : Y) → Member y (map f xs) → From f xs y
+pub from_map : {X Y : Type 0} (f : X → Y) (xs : List X) (y : Y) → Member y (map f xs) → From f xs y
 from_map f [] y m = absurd m
 from_map f (x ∷ xs) y m = elim m [
   | inl e ↦ record { one = x; member = inl refl; is = e }
@@ -57,12 +57,12 @@ to_map : {X Y : Type 0} (f : X → Y) (xs : List X) (x : X) → Member x xs → 
 to_map f [] x m = absurd m
 to_map f (z ∷ xs) x m = elim m [ inl e ↦ inl (ap f e) | inr o ↦ inr (to_map f xs x o) ]
 
-record Paired {X Y : Type 0} (R : X → Y → Type 0) (xs : List X) (y : Y) : Type 0 where
-  one : X
-  member : Member one xs
-  holds : R one y
+pub record Paired {X Y : Type 0} (R : X → Y → Type 0) (xs : List X) (y : Y) : Type 0 where
+  pub one : X
+  pub member : Member one xs
+  pub holds : R one y
 
-paired : {X Y : Type 0} (R : X → Y → Type 0) (xs : List X) (ys : List Y) (y : Y) → AllZip R xs ys → Member y ys → Paired R xs y
+pub paired : {X Y : Type 0} (R : X → Y → Type 0) (xs : List X) (ys : List Y) (y : Y) → AllZip R xs ys → Member y ys → Paired R xs y
 paired R [] [] y z m = absurd m
 paired R [] (v ∷ ys) y z m = absurd z
 paired R (x ∷ xs) [] y z m = absurd m
@@ -96,7 +96,7 @@ first_level (negsuc n) zs p e = absurd (omega (arith, ints))
 
 module _ (fan : Fan) (is : IsFan fan.k fan.list) where
   -- ---- chambers are full cones
-  full_chamber : (sig : Signature) (rays facets : List Vector) (weight : Vector) → IsLegal fan sig → chamber.IsChamber fan sig rays facets weight
+  pub full_chamber : (sig : Signature) (rays facets : List Vector) (weight : Vector) → IsLegal fan sig → chamber.IsChamber fan sig rays facets weight
       → IsFullCone fan.k rays facets
   full_chamber sig rays facets weight legal c =
       let k = fan.k in

@@ -10,6 +10,7 @@ use Rattle.git_listing.specs.Listings.{Listing}
 use Rattle.git_chamber.specs.Chambers.{IsChamber, IsInner, first_germ}
 use Rattle.git_chamber.specs.Views.{Graph, IsGraph}
 use Rattle.git_chamber.specs.Listings.{IsListing}
+use Rattle.git_allcones.specs.Cones.{AreShortCones, cones_of}
 use Rattle.git_covering.specs.Coverings.{AllInnerAreMatched, IsInListed}
 
 -- where each inner facet of a listing is matched, each vector of the cone of the columns lies in a listed chamber
@@ -27,3 +28,7 @@ abbrev pub BoundaryFacetIsOnTheWeightCone : Type 0
 BoundaryFacetIsOnTheWeightCone = (fan : Fan) (sig : Signature) (rays facets : List Vector) (weight n : Vector) → IsFan fan.k fan.list → IsLegal fan sig → Has sig 0
     → IsChamber fan sig rays facets weight → Contains facets n → (IsInner fan rays n → ⊥)
     → (m : Vector) × Contains (facets_at fan 0) m × (dot m (vector_sum fan.k (on_wall n rays)) ≡ pos 0)
+
+-- the chambers of a listing are full cones, with entries of at most 2^40 in absolute value
+abbrev pub ListedChambersAreShortCones : Type 0
+ListedChambersAreShortCones = (fan : Fan) (first : Signature) (r : ℕ) (l : Listing) → IsFan fan.k fan.list → IsLegal fan first → IsListing fan first r l → AreShortCones fan.k (cones_of l)

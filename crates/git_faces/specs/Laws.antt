@@ -13,9 +13,8 @@ use Rattle.git_faces.specs.FullFaces.{AreFullFaces}
 use Rattle.git_faces.specs.FaceVerdicts.{RunEnds, EndBefore, run_of, IsFirstStop}
 use Rattle.git_faces.specs.declared.fault.FacesFault.{FacesFault}
 use Rattle.git_faces.specs.declared.fault.FacesFault.TheVariants.{Steps, Degree, NoMemory}
-use Rattle.git_limits.specs.declared.TheConstants.{COLUMNS}
+use Rattle.git_limits.specs.declared.TheConstants.{COLUMNS, STEPS}
 use Rattle.git_basis.specs.declared.element.TheConstants.{RUN_DEGREE}
-use Rattle.git_basis.specs.declared.running.TheConstants.{RUN_STEPS}
 
 -- vectors have one list of full faces
 pub record FullFaceLaws : Type 0 where
@@ -54,4 +53,4 @@ IsCertified generators mask = (IsAFace generators mask × ((members : List Polyn
 
 -- where the run of a face ends, the face has a certificate of its kind
 abbrev pub EndedRunsCertify : Type 0
-EndedRunsCertify = (generators : List Polynomial) (limit mask : ℕ) → mask < 2 ^ COLUMNS → limit ≤ RUN_STEPS → All (λ f. total_degree f ≤ RUN_DEGREE) generators → RunEnds generators limit mask → IsCertified generators mask
+EndedRunsCertify = (generators : List Polynomial) (limit mask : ℕ) → mask < 2 ^ COLUMNS → limit ≤ STEPS → All (λ f. total_degree f ≤ RUN_DEGREE) generators → RunEnds generators limit mask → IsCertified generators mask

@@ -7,9 +7,9 @@ ghost use Rattle.git_faces.specs.Dealing.{IsFound, IsSeen, IsUnseen};
 use crate::dealing::{Task, dealt};
 use crate::fault::FacesFault;
 use git_base::NoMemory;
-use git_basis::RUN_STEPS;
 use git_facecert::FaceVerdict;
 use git_input::Input;
+use git_limits::STEPS;
 use git_saturate::{SatFault, verdict};
 use rayon::prelude::*;
 use std::alloc::{AllocError, Global};
@@ -32,7 +32,7 @@ fn face_verdict(
     mask: u16,
     steps: u64,
 ) -> Result<FaceVerdict, FacesFault>
-    requires { steps ≤ RUN_STEPS }
+    requires { steps ≤ STEPS }
     ensures { IsOutcome input.now.generators steps mask result }
 {
     match verdict(alloc, input, mask, steps) {
@@ -50,7 +50,7 @@ fn face_verdict(
 /// over, since it isn't asked for. A trace is kept where nothing comes before, and is made again else; so
 /// many runs that stop take the memory of a few.
 fn found_of(alloc: Global, input: &Input, task: &Task, steps: u64, stop: &AtomicUsize) -> Found
-    requires { steps ≤ RUN_STEPS }
+    requires { steps ≤ STEPS }
     ensures { IsFound input.now.generators steps task.now result }
 {
     let place = task.place;
@@ -96,7 +96,7 @@ fn judged<R: Threads + Sync>(
     tasks: &[Task],
     steps: u64,
 ) -> Result<Vec<Found>, AllocError>
-    requires { steps ≤ RUN_STEPS }
+    requires { steps ≤ STEPS }
     ensures { IfOk result (λ v. AllZip (IsFound input.now.generators steps) tasks.now v.items) }
 {
     let stop = AtomicUsize::new(usize::MAX);
@@ -105,7 +105,7 @@ fn judged<R: Threads + Sync>(
         .with_min_len(1)
         .map(
             |task: &Task| -> Found
-                requires { steps ≤ RUN_STEPS }
+                requires { steps ≤ STEPS }
                 ensures { IsFound input.entry.now.generators steps task.now result }
             { found_of(alloc, input, task, steps, &stop) },
         )
@@ -145,7 +145,7 @@ fn seen<R: Threads + Sync>(
     masks: &[u16],
     steps: u64,
 ) -> Result<Vec<Found>, NoMemory>
-    requires { steps ≤ RUN_STEPS }
+    requires { steps ≤ STEPS }
     ensures { IfOk result (λ v. AllZip (IsSeen input.now.generators steps) masks.now v.items) }
 {
     let tasks = dealt(alloc, masks)?;
@@ -159,7 +159,7 @@ fn seen<R: Threads + Sync>(
 
 /// The outcome of a mask, which is judged now where nothing was seen of it.
 fn settled(alloc: Global, input: &Input, steps: u64, seen: Found) -> Result<FaceVerdict, FacesFault>
-    requires steps { steps ≤ RUN_STEPS }
+    requires steps { steps ≤ STEPS }
     requires seen { IfSome seen.outcome (IsOutcome input.now.generators steps seen.mask) }
     ensures { IsOutcome input.now.generators steps seen.mask result }
 {
@@ -185,7 +185,7 @@ pub fn verdicts<R: Threads + Sync>(
     masks: &[u16],
     steps: u64,
 ) -> Result<Vec<FaceVerdict>, FacesFault>
-    requires { steps ≤ RUN_STEPS }
+    requires { steps ≤ STEPS }
     ensures verdicts { IfOk result (λ v. AllZip (IsFaceVerdict input.now.generators steps) masks.now v.items) }
     ensures stopped { IfErr result (IsFirstStop input.now.generators steps masks.now) }
 {

@@ -1,9 +1,9 @@
 //! Faces worked by hand.
 use super::*;
 use git_base::NoMemory;
-use git_basis::RUN_STEPS;
 use git_facecert::{Accepted, FaceCert, accept};
 use git_input::Input;
+use git_limits::STEPS;
 use git_text::read_input;
 use std::alloc::Global;
 use std::marker::Sync;
@@ -101,7 +101,7 @@ fn are_verdicts(found: &[FaceVerdict], masks: &[u16], free: &[bool]) -> bool {
 /// Whether the verdicts of a case are as it says.
 fn is_met<R: Threads + Sync>(rt: &R, alloc: Global, case: &Case) -> Option<bool> {
     let (text, masks, steps, expected) = *case;
-    if steps > RUN_STEPS {
+    if steps > STEPS {
         return None;
     }
     let input = input(alloc, text)?;

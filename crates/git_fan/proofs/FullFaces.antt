@@ -2,15 +2,12 @@
 use Rattle.std.proofs.Common.{◌≡◌, ◌≢◌, ◌⊎◌, ◌∙◌, ℕ, ◌^◌, ◌<◌, ◌≤◌, List, [], ◌∷◌, ◌++◌, length, map, inl, inr, refl, sym, ap, subst, arith}
 use Rattle.std.specs.Prelude.{◌↔◌, AllPairs, Contains, Bool, IsTrue}
 use Rattle.std.specs.List.{AllZip}
-use Rattle.std.proofs.lemmas.Nat.{pow_pos}
 use Rattle.git_lemmas.specs.Members.{Member}
 use Rattle.git_lemmas.proofs.Members.{contains_member, member_contains, all_member, member_all}
 use Rattle.git_lemmas.proofs.Sorting.{Ascends, ascends_of_pairs, pairs_of_ascends}
 use Rattle.git_base.specs.declared.status.Status.{Status}
-use Rattle.git_defs.specs.Vectors.{HasRank}
 use Rattle.git_defs.specs.Faces.{face}
 use Rattle.git_grading.specs.Gradings.{IsGrading}
-use Rattle.git_orbit.proofs.Fans.{face_whole}
 use Rattle.git_input.specs.Inputs.{InputValue}
 use Rattle.git_ideals.specs.Faces.{IsAFace}
 use Rattle.git_basis.specs.Stops.{Ends}
@@ -22,6 +19,7 @@ use Rattle.git_facecert.specs.declared.certificate.FaceVerdict.{FaceVerdict}
 use Rattle.git_faces.specs.FullFaces.{AreFullFaces}
 use Rattle.git_faces.specs.FaceVerdicts.{RunEnds, IsFaceVerdict, EndBefore}
 use Rattle.git_replies.specs.Cases.{Passes, IsFirst}
+use Rattle.git_answers.proofs.OneFan.{whole_full}
 use Rattle.git_answers.specs.Verdicts.{whole_face, start_at, StopsWith, StopsAt, IsFullFace, IsVerdict, AreVerdicts}
 
 -- a run that ends does not stop
@@ -34,14 +32,6 @@ full_face v masks are m c = (are.each m).0 c
 
 face_full : (v : InputValue) (masks : List ℕ) → AreFullFaces v.degrees.k v.degrees.columns masks → (m : ℕ) → IsFullFace v m → Contains masks m
 face_full v masks are m f = (are.each m).1 f
-
--- the whole face is full
-pub whole_full : (v : InputValue) → IsGrading v.degrees.k v.degrees.columns → IsFullFace v (whole_face v)
-whole_full v g = record {
-  in_range = (let some : 0 < 2 ^ length v.degrees.columns = pow_pos (length v.degrees.columns) in omega (arith, some));
-  full = subst (HasRank v.degrees.k) (sym (face_whole v.degrees.columns)) g.rank;
-  is_accepted = tt;
-}
 
 -- the other full faces, descending
 pub record AreOthers (v : InputValue) (rest : List ℕ) : Type 0 where

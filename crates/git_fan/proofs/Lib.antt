@@ -1,6 +1,5 @@
 pub mod FullFaces
-pub mod Accepted
-pub mod OneFan
+pub mod Wide
 pub mod NotGood
 pub mod Opens
 pub mod Listings

@@ -16,7 +16,8 @@ use Rattle.std.proofs.lemmas.List.{length-map}
 use Rattle.git_machine.specs.Ties.{signature_total}
 use Rattle.git_orbit.specs.Orbits.{Fan}
 use Rattle.git_chamber.specs.Views.{Graph}
-use Rattle.git_chamber.specs.Chambers.{IsCell, IsNext}
+use Rattle.git_defs.specs.Vectors.{Vector}
+use Rattle.git_chamber.specs.Chambers.{IsCell, IsNext, first_germ}
 use Rattle.git_chamber.specs.Listings.{IsListing}
 use Rattle.git_chamber.specs.declared.cell.Cell.{Cell}
 use Rattle.git_chamber.specs.declared.cell.Cell.TheVariants as cell
@@ -24,7 +25,7 @@ use Rattle.git_listing.specs.Listings.{Listing}
 use Rattle.git_assemble.specs.Assembling.{AllGood, IsFirstBad, IsGoodSignature, IsFirstSignature, IsClosure, IsAssembleFault}
 use Rattle.git_replies.specs.Cases.{Passes, Outcome, says}
 use Rattle.git_answers.specs.Ends.{spelled}
-use Rattle.git_answers.specs.Fan.{IsBad, IsRefused, Refuses, UpTo, IsListingOf, written, not_good}
+use Rattle.git_answers.specs.Fan.{IsBad, IsOpening, IsRefused, Refuses, UpTo, IsListingOf, written, not_good}
 use Rattle.git_replies.specs.Lines.{wide_chamber_text}
 use Rattle.git_answers.specs.declared.output.Output.{Output}
 use Rattle.git_answers.specs.declared.output.Output.TheVariants.{Plain, Certified, Counted}
@@ -32,9 +33,17 @@ use Rattle.git_assemble.specs.declared.fault.AssembleFault.{AssembleFault}
 use Rattle.git_assemble.specs.declared.fault.AssembleFault.TheVariants as bad
 use Rattle.git_answers.proofs.Replies.{plain}
 use Rattle.git_fan.specs.Fans.{IsGraphOf, IsNarrow, IsNotGoodReply}
-use Rattle.git_orbit.specs.Signatures.{IsLegal, width_of}
+use Rattle.git_orbit.specs.Signatures.{IsLegal, IsSignature, width_of}
 use Rattle.git_chamber.proofs.Graphs.{reached_legal}
-use Rattle.git_fan.proofs.OneFan.{opening_along, opens}
+use Rattle.git_answers.proofs.OneFan.{opening_along}
+
+-- the graph of the input opens with its first signature
+pub opens : (v : InputValue) (g : Graph) (first : Signature) → IsGraphOf v g → IsFirstSignature g first → IsOpening v g.fan first
+opens v g first of is = record {
+  is_fan = of.fan;
+  is_first = subst (λ (k : ℕ). IsSignature g.fan (first_germ k v.degrees.columns) first) of.fan.k
+      (subst (λ (qs : List Vector). IsSignature g.fan (first_germ g.fan.k qs) first) of.columns is);
+}
 
 -- a good signature isn't refused
 pub good_not_refused : (fan : Fan) (sig : Signature) (o : Outcome) → IsGoodSignature fan sig → IsRefused fan sig o → ⊥

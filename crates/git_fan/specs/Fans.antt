@@ -1,11 +1,9 @@
 -- What is handed on between the cases of `fan`.
-use Rattle.std.specs.Prelude.{◌≡◌, ◌↔◌, ℕ, ◌≤◌, ◌+◌, ◌*◌, ◌^◌, List, [], ◌∷◌, length}
+use Rattle.std.specs.Prelude.{◌≡◌, ◌↔◌, ℕ, ◌≤◌, ◌+◌, ◌*◌, ◌^◌, List, length}
 use Rattle.git_input.specs.Inputs.{InputValue}
 use Rattle.git_ideals.specs.Faces.{IsAFace}
 use Rattle.git_basis.specs.Stops.{Ends}
 use Rattle.git_basis.specs.declared.step.Step.{Step}
-use Rattle.git_facecert.specs.declared.certificate.FaceCert.{FaceCert}
-use Rattle.git_facecert.specs.declared.certificate.FaceCert.TheVariants.{Monomial, Free}
 use Rattle.git_facecert.specs.declared.certificate.FaceVerdict.{FaceVerdict}
 use Rattle.git_chamber.specs.Views.{Graph}
 use Rattle.git_base.specs.declared.status.Status.{Status}
@@ -26,19 +24,6 @@ use Rattle.git_fan.specs.declared.opening.Opened.{Opened}
 use Rattle.git_fan.specs.declared.opening.Opened.TheVariants.{Decided, Open}
 use Rattle.git_fan.specs.declared.listing.Listed.{Listed}
 use Rattle.git_fan.specs.declared.listing.Listed.TheVariants.{Refused, Chambers}
-
--- the mask where the certificate is free, before the others
-abbrev pub with_free : ℕ → FaceCert → List ℕ → List ℕ
-with_free mask (Monomial power cofactors) masks = masks
-with_free mask (Free members) masks = mask ∷ masks
-
-abbrev pub free_masks_of : List FaceVerdict → List ℕ
-free_masks_of [] = []
-free_masks_of (f ∷ fs) = with_free f.mask f.cert (free_masks_of fs)
-
--- the masks of the free verdicts, in their order
-abbrev pub AreFreeMasks : List FaceVerdict → List ℕ → Type 0
-AreFreeMasks faces masks = masks ≡ free_masks_of faces
 
 -- the verdict of the whole face, which is an a-face; its run ends within so many steps
 pub record IsWholeVerdict (v : InputValue) (limit : ℕ) (f : FaceVerdict) : Type 0 where

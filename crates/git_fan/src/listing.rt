@@ -19,11 +19,11 @@ ghost use Rattle.git_fan.specs.Fans.{IsGraphOf, IsListed, IsNarrow, IsNotGoodRep
 use crate::opening::{Opened, open_fan};
 use git_assemble::{AssembleFault, assemble};
 use git_base::NoMemory;
-use git_basis::RUN_STEPS;
 use git_chamber::{Cell, FanGraph};
 use git_crew::{Gate, close_over_with};
 use git_facecert::FaceVerdict;
 use git_input::Input;
+use git_limits::STEPS;
 use git_listing::Listing;
 use git_machine::{CloseFault, Closed, Sig};
 use git_plain::close_over;
@@ -170,7 +170,7 @@ pub fn list_alone<R: Threads + Sync>(
 ) -> Result<Listed, NoMemory>
     requires some { 1 ≤ table }
     requires table { table ≤ 65536 }
-    requires steps { steps ≤ RUN_STEPS }
+    requires steps { steps ≤ STEPS }
     ensures { IfOk result (IsListed input.now (refuses (options table steps) input.now)) }
 {
     match open_fan(rt, alloc, input, table, steps)? {
@@ -191,7 +191,7 @@ pub fn list_together<R: Threads + Wait + Sync, T: Gate + Sync>(
 ) -> Result<Listed, NoMemory>
     requires some { 1 ≤ table }
     requires table { table ≤ 65536 }
-    requires steps { steps ≤ RUN_STEPS }
+    requires steps { steps ≤ STEPS }
     requires workers { (1 ≤ workers) × (workers ≤ 64) }
     ensures { IfOk result (IsListed input.now (refuses (options table steps) input.now)) }
 {

@@ -11,16 +11,17 @@ ghost use Rattle.git_answers.specs.Ends.{spelled};
 ghost use Rattle.git_answers.specs.Verdicts.{AreVerdicts, IsVerdict, whole_face};
 ghost use Rattle.git_answers.specs.Fan.{refuses, has_monomial, after_whole, after_verdicts, after_cones, IsFanOf, options};
 ghost use Rattle.git_replies.specs.Lines.{monomial_text};
-ghost use Rattle.git_fan.specs.Fans.{AreFreeMasks, IsOpened, IsWholeVerdict, IsWideReply};
+ghost use Rattle.git_fan.specs.Fans.{IsOpened, IsWholeVerdict, IsWideReply};
 
 use git_base::{NoMemory, Status};
-use git_basis::RUN_STEPS;
 use git_certtext::print_one;
 use git_chamber::FanGraph;
-use git_facecert::{FaceCert, FaceVerdict};
+use git_facecert::FaceVerdict;
 use git_faces::{FacesFault, full_faces, verdicts};
 use git_grading::Grading;
 use git_input::Input;
+use git_input_cones::{input_cones, whole_mask};
+use git_limits::STEPS;
 use git_orbit::{Cones, ConesFault, OrbitCone};
 use git_replies::{Reply, degree_line, steps_line, table_wide_line, wide_face_line};
 use git_saturate::{SatFault, verdict};
@@ -34,27 +35,6 @@ use std::thread::Threads;
 pub(crate) enum Opened {
     Decided(Reply),
     Open(FanGraph, Vec<FaceVerdict>),
-}
-
-/// The mask of all variables.
-fn whole_mask(input: &Input) -> u16
-    ensures mask { result ≡ whole_face input.now }
-    ensures grading { IsGrading input.now.degrees.k input.now.degrees.columns }
-{
-    ((1u32 << input.grading.r()) - 1) as u16
-}
-
-/// The masks of the free verdicts, in their order.
-fn free_masks(alloc: Global, faces: &[FaceVerdict]) -> Result<Vec<u16>, NoMemory>
-    ensures { IfOk result (λ masks. AreFreeMasks faces.now masks.items) }
-{
-    let mut masks = Vec::new(alloc);
-    for face in faces {
-        if let FaceCert::Free { .. } = &face.cert {
-            masks.push(face.mask)?;
-        }
-    }
-    Ok(masks)
 }
 
 /// The verdict of the whole face, and those of the others after it.
@@ -150,9 +130,7 @@ fn after_verdicts(
     ensures { (s : ℕ) → IfOk result (IsOpened input.now (options table s) (after_verdicts (options table s) input.now)) }
 {
     let listed: &[FaceVerdict] = &faces;
-    let found = free_masks(alloc, listed)?;
-    let masks: &[u16] = &found;
-    match Cones::new(alloc, &input.grading, masks) {
+    match input_cones(alloc, input, listed) {
         Ok(cones) => after_cones(alloc, cones, &input.grading, faces, table),
         Err(fault) => {
             let reply = wide_or_memory(alloc, fault)?;
@@ -179,7 +157,7 @@ fn after_whole<R: Threads + Sync>(
     steps: u64,
 ) -> Result<Opened, NoMemory>
     requires table { table ≤ 65536 }
-    requires steps { steps ≤ RUN_STEPS }
+    requires steps { steps ≤ STEPS }
     requires grading { IsGrading input.now.degrees.k input.now.degrees.columns }
     requires whole { IsWholeVerdict input.now steps whole }
     ensures { IfOk result (IsOpened input.now (options table steps) (after_whole (options table steps) input.now)) }
@@ -211,7 +189,7 @@ pub(crate) fn open_fan<R: Threads + Sync>(
     steps: u64,
 ) -> Result<Opened, NoMemory>
     requires table { table ≤ 65536 }
-    requires steps { steps ≤ RUN_STEPS }
+    requires steps { steps ≤ STEPS }
     ensures { IfOk result (IsOpened input.now (options table steps) (refuses (options table steps) input.now)) }
 {
     let mask = whole_mask(input);

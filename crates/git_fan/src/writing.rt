@@ -13,11 +13,11 @@ ghost use Rattle.git_answers.specs.Fan.{fan_of, written, options};
 use crate::listing::{Listed, list_alone, list_together};
 use git_answers::Output;
 use git_base::{NoMemory, Status};
-use git_basis::RUN_STEPS;
 use git_certtext::print as print_certificates;
 use git_crew::Gate;
 use git_facecert::FaceVerdict;
 use git_input::Input;
+use git_limits::STEPS;
 use git_listing::{Listing, print};
 use git_replies::{Reply, counts_line};
 use std::alloc::Global;
@@ -89,7 +89,7 @@ pub fn fan_alone<R: Threads + Sync>(
 ) -> Result<Reply, NoMemory>
     requires some { 1 ≤ table }
     requires table { table ≤ 65536 }
-    requires steps { steps ≤ RUN_STEPS }
+    requires steps { steps ≤ STEPS }
     ensures { IfOk result (λ a. spelled input.now (fan_of (options table steps) output input.now) a.status a.text.items) }
 {
     match list_alone(rt, alloc, input, table, steps)? {
@@ -111,7 +111,7 @@ pub fn fan_together<R: Threads + Wait + Sync, T: Gate + Sync>(
 ) -> Result<Reply, NoMemory>
     requires some { 1 ≤ table }
     requires table { table ≤ 65536 }
-    requires steps { steps ≤ RUN_STEPS }
+    requires steps { steps ≤ STEPS }
     requires workers { (1 ≤ workers) × (workers ≤ 64) }
     ensures { IfOk result (λ a. spelled input.now (fan_of (options table steps) output input.now) a.status a.text.items) }
 {

@@ -48,10 +48,14 @@ pub record IsWideAround (fan : Fan) (w : Vector) (at : WideAt) : Type 0 where
   pub signature : IsSignature fan (w ∷ []) sig
   pub wide : IsWideSignature fan sig at
 
+-- the facets of the cones that hold w are not wide
+abbrev pub IsNarrowAround : Fan → Vector → Type 0
+IsNarrowAround fan w = (at : WideAt) → IsWideAround fan w at → ⊥
+
 -- the position of a weight that the weight cone holds
 pub record IsPosition (fan : Fan) (l : Listing) (w : Vector) (p : Position) : Type 0 where
   pub within : cone_in fan 0 w
-  pub narrow : (at : WideAt) → IsWideAround fan w at → ⊥
+  pub narrow : IsNarrowAround fan w
   pub cones : AreNumbersOf (IsAround fan w) p.cones
   pub rays : AreRays fan.k (InAllAround fan w) p.rays
   pub dimension : IsRank fan.k p.rays p.dimension

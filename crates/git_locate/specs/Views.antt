@@ -1,10 +1,14 @@
 -- What the values of the code stand for.
+use Rattle.std.specs.Prelude.{◌≡◌, ℕ, List}
 use Rattle.git_defs.specs.Vectors.{Vector}
 use Rattle.git_machine.specs.Signatures.{Signature}
 use Rattle.git_orbit.specs.Orbits.{Fan}
 use Rattle.git_chamber.specs.Chambers.{IsWideSignature}
 use Rattle.git_locate.specs.Places.{Place, Placed, inside, outside}
 use Rattle.git_locate.specs.Positions.{IsWideAround}
+use Rattle.git_locate.specs.Lists.{IsFirstWideWeight}
+use Rattle.git_locate.specs.declared.located.LocateAllFault.{LocateAllFault}
+use Rattle.git_locate.specs.declared.located.LocateAllFault.TheVariants as every
 use Rattle.git_locate.specs.declared.located.LocateFault.{LocateFault}
 use Rattle.git_locate.specs.declared.located.LocateFault.TheVariants.{NoMemory, Wide}
 use Rattle.git_locate.specs.declared.located.Located.{Located}
@@ -27,3 +31,13 @@ IsLocateFault fan w NoMemory = Unit {0}
 abbrev pub IsCommonFault : Fan → Signature → LocateFault → Type 0
 IsCommonFault fan sig (Wide at) = IsWideSignature fan sig at
 IsCommonFault fan sig NoMemory = Unit {0}
+
+-- what a refusal of the weight with this number means
+abbrev pub IsFaultAt : Fan → ℕ → Vector → LocateAllFault → Type 0
+IsFaultAt fan number w (every.Wide n at) = (n ≡ number) × IsWideAround fan w at
+IsFaultAt fan number w every.NoMemory = Unit {0}
+
+-- what a refusal of several weights means
+abbrev pub IsLocateAllFault : Fan → List Vector → LocateAllFault → Type 0
+IsLocateAllFault fan weights (every.Wide number at) = IsFirstWideWeight fan weights number at
+IsLocateAllFault fan weights every.NoMemory = Unit {0}

@@ -1,4 +1,5 @@
 //! Where a weight lies, and why it isn't told.
+use git_base::NoMemory;
 use git_ints::IVec;
 use git_stages::WideAt;
 
@@ -34,4 +35,25 @@ pub enum LocateFault {
     Wide(WideAt),
     /// Memory ran out.
     NoMemory,
+}
+
+/// Why it isn't told where several weights lie.
+#[derive(Clone, Copy, Debug, PartialEq, Eq)]
+pub enum LocateAllFault {
+    /// The weight with this number, from 1, is the first that is refused: the weight cone holds it, and the sorted
+    /// distinct facets of the cones that hold it are wide.
+    Wide { number: usize, at: WideAt },
+    /// Memory ran out.
+    NoMemory,
+}
+
+impl From<NoMemory> for LocateAllFault {
+    ghost use Rattle.std.specs.Prelude.{◌≡◌};
+    ghost use Rattle.git_locate.specs.declared.located.LocateAllFault.{LocateAllFault};
+
+    ghost from_gives = { λ _ e. e ≡ LocateAllFault.NoMemory };
+
+    fn from(_e: NoMemory) -> LocateAllFault {
+        LocateAllFault::NoMemory
+    }
 }

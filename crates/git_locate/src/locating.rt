@@ -1,5 +1,5 @@
 //! Where weights lie.
-ghost use Rattle.std.specs.Prelude.{◌≡◌, ◌<◌, ◌≤◌, [], ◌∷◌, All, IfOk, IfErr, length};
+ghost use Rattle.std.specs.Prelude.{◌≡◌, ◌<◌, ◌≤◌, ◌^◌, [], ◌∷◌, All, IfOk, IfErr, length};
 ghost use Rattle.git_defs.specs.Cones.{AreRays};
 ghost use Rattle.git_orbit.specs.Signatures.{InChamber, IsSignature, cone_in};
 ghost use Rattle.git_chamber.specs.Chambers.{IsNarrow, IsNumbers, IsWideSignature};
@@ -55,9 +55,6 @@ fn dimension_of(alloc: Global, k: usize, rays: &[IVec]) -> Result<u32, NoMemory>
     ensures { IfOk result (λ n. IsRank k rays.now n) }
 {
     let n = rank(alloc, k, rays)?;
-    if n > u32::MAX as usize {
-        return Err(NoMemory);
-    }
     Ok(n as u32)
 }
 
@@ -70,6 +67,7 @@ fn position(
     sig: &Sig,
     rays: Vec<IVec>,
 ) -> Result<Located, NoMemory>
+    requires few { length listing.now.chambers.items < 2 ^ 32 }
     requires listing { AreShortCones cones.now.k (cones_of (listing_of listing.now)) }
     requires weight { IsShort cones.now.k w.now }
     requires within { cone_in cones.now 0 w.now }
@@ -79,9 +77,6 @@ fn position(
     requires narrow { IsNarrow cones.now sig.now }
     ensures { IfOk result (λ p. IsPlace cones.now (listing_of listing.now) w.now (place_of p)) }
 {
-    if listing.chambers.len() >= u32::MAX as usize {
-        return Err(NoMemory);
-    }
     let around = numbers_of(alloc, sig, cone_count(cones))?;
     let dimension = dimension_of(alloc, cones.k, &rays)?;
     let chambers = chambers_around(alloc, cones.k, &listing.chambers, w)?;
@@ -96,6 +91,7 @@ fn position(
 /// Where a weight lies that the weight cone holds.
 fn within(alloc: Global, cones: &Cones, listing: &Listing, w: &IVec) -> Result<Located, LocateFault>
     requires some { 0 < length cones.now.list }
+    requires few { length listing.now.chambers.items < 2 ^ 32 }
     requires listing { AreShortCones cones.now.k (cones_of (listing_of listing.now)) }
     requires weight { IsShort cones.now.k w.now }
     requires within { cone_in cones.now 0 w.now }
@@ -116,8 +112,8 @@ fn within(alloc: Global, cones: &Cones, listing: &Listing, w: &IVec) -> Result<L
 /// it, with the numbers of the cones and of the listed chambers that hold it, ascending, and the extreme vectors and
 /// the dimension of what these cones have in common.
 ///
-/// There is a cone. The weight has `k` entries, of at most 2^40 in absolute value. Each chamber of the listing has the
-/// rays and the facets of one cone with `k` independent rays, with entries of at most 2^40.
+/// There is a cone. The weight has `k` entries, of at most 2^40 in absolute value. The listing has fewer than 2^32
+/// chambers, and each has the rays and the facets of one cone with `k` independent rays, with entries of at most 2^40.
 ///
 /// # Errors
 ///
@@ -130,6 +126,7 @@ pub fn locate(
     w: &IVec,
 ) -> Result<Located, LocateFault>
     requires some { 0 < length cones.now.list }
+    requires few { length listing.now.chambers.items < 2 ^ 32 }
     requires listing { AreShortCones cones.now.k (cones_of (listing_of listing.now)) }
     requires weight { IsShort cones.now.k w.now }
     ensures place { IfOk result (λ p. IsPlace cones.now (listing_of listing.now) w.now (place_of p)) }

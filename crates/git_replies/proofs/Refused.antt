@@ -13,10 +13,10 @@ use Rattle.git_replies.specs.declared.reading.Reading.TheVariants.{Refused}
 more_than : (n : ℕ) → (bytes : List ℕ) × (n < length bytes)
 more_than n = (replicate (n + 1) 0, (let e = length-replicate {A = ℕ} (n + 1) 0 in omega (arith, e)))
 
--- too many bytes that may have been left
-long_left : (left : Option (List ℕ)) → IfSome left (λ bs. INPUT_BYTES < length bs) → (bytes : List ℕ) × IfSome left (λ bs. bs ≡ bytes) × (INPUT_BYTES < length bytes)
-long_left None long = let m = more_than INPUT_BYTES in (m.0, tt, m.1)
-long_left (Some bs) long = (bs, refl, long)
+-- more bytes than a limit that may have been left
+pub long_left : (limit : ℕ) (left : Option (List ℕ)) → IfSome left (λ bs. limit < length bs) → (bytes : List ℕ) × IfSome left (λ bs. bs ≡ bytes) × (limit < length bytes)
+long_left limit None long = let m = more_than limit in (m.0, tt, m.1)
+long_left limit (Some bs) long = (bs, refl, long)
 
 pub long_refused : (left : Option (List ℕ)) (a : code.Reply) → IfSome left (λ bs. INPUT_BYTES < length bs) → a.status ≡ BadInput → a.text.items ≡ long_text → IsReading left (Refused a)
-long_refused left a long status spells = let b = long_left left long in (b.0, b.1, (status, inl (b.2, ap (says BadInput) spells)))
+long_refused left a long status spells = let b = long_left INPUT_BYTES left long in (b.0, b.1, (status, inl (b.2, ap (says BadInput) spells)))

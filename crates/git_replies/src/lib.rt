@@ -10,7 +10,7 @@ mod reply;
 
 pub use counts::counts_line;
 pub use lines::{
-    degree_line, full_line, steps_line, table_wide_line, wide_chamber_line, wide_face_line,
+    degree_line, full_line, push_at, steps_line, table_wide_line, wide_chamber_line, wide_face_line,
 };
-pub use reading::{Reading, read};
+pub use reading::{Reading, input_refusal, read};
 pub use reply::{Reply, Unanswered};

@@ -75,8 +75,8 @@ fn push_entries(out: &mut String, entries: &[i128]) -> Result<(), AllocError>
     Ok(())
 }
 
-/// The stage that is wide, and the vector or that there are many.
-fn push_at(out: &mut String, at: &WideAt) -> Result<(), AllocError>
+/// The stage that is wide, and the vector or that there are many, each word after a space.
+pub fn push_at(out: &mut String, at: &WideAt) -> Result<(), AllocError>
     ensures { OnOk result (string_bytes out.new ≡ string_bytes out.old ++ after_spaces (at_words at.now)) }
 {
     write!(out, " stage {}", at.stage)?;

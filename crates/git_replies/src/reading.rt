@@ -26,8 +26,8 @@ pub enum Reading {
     Refused(Reply),
 }
 
-/// The answer to a fault of the bytes.
-fn refused(
+/// The answer to a fault of the bytes: its line, with `r` exponents of monomials, at most sixteen.
+pub fn input_refusal(
     alloc: Global,
     r: usize,
     line: u32,
@@ -53,7 +53,7 @@ fn answer_to_fault(alloc: Global, bytes: &[u8], fault: InputFault) -> Result<Rep
     match fault {
         InputFault::NoMemory => Err(NoMemory),
         InputFault::Bad { line, column, kind } => {
-            refused(alloc, announced_variables(bytes), line, column, &kind)
+            input_refusal(alloc, announced_variables(bytes), line, column, &kind)
         }
     }
 }
@@ -79,7 +79,7 @@ pub fn read<S: Source>(alloc: Global, source: &mut S) -> Result<Reading, Unanswe
     match read_all(alloc, source, INPUT_BYTES) {
         Ok(bytes) => Ok(read_bytes(alloc, &bytes)?),
         Err(ReadError::TooLong) => {
-            let reply = refused(alloc, 0, 0, 0, &BadKind::TooLong)?;
+            let reply = input_refusal(alloc, 0, 0, 0, &BadKind::TooLong)?;
             Ok(Reading::Refused(reply))
         }
         Err(ReadError::ReadFault) => Err(Unanswered::ReadFault),

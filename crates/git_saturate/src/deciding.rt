@@ -15,9 +15,10 @@ use crate::fault::{SatFault, sat_fault};
 use crate::starting::start;
 use crate::trading::{greatest_extra_of, spread};
 use git_base::NoMemory;
-use git_basis::{Ended, RUN_DEGREE, RUN_STEPS, run};
+use git_basis::{Ended, RUN_DEGREE, run};
 use git_facecert::FaceCert;
 use git_input::Input;
+use git_limits::STEPS;
 use git_poly::Poly;
 use std::alloc::Global;
 
@@ -48,7 +49,7 @@ pub(crate) fn decide(
 ) -> Result<Verdict, SatFault>
     requires few { length generators.now ≤ 64 }
     requires small { All (λ f. total_degree f ≤ RUN_DEGREE) generators.now }
-    requires steps { steps ≤ RUN_STEPS }
+    requires steps { steps ≤ STEPS }
     ensures free { IfOk result (λ v. IsTrue v.free ↔ IsAFace generators.now mask) }
     ensures certificate { IfOk result (λ v. IsCertificate generators.now mask v.cert) }
     ensures kind { IfOk result (λ v. IsTrue v.free ↔ IsFree v.cert) }
@@ -89,7 +90,7 @@ pub(crate) fn decide(
 ///
 /// The mask has bit `i` for the variable at place `i`.
 pub fn verdict(alloc: Global, input: &Input, mask: u16, steps: u64) -> Result<Verdict, SatFault>
-    requires { steps ≤ RUN_STEPS }
+    requires { steps ≤ STEPS }
     ensures free { IfOk result (λ v. IsTrue v.free ↔ IsAFace input.now.generators mask) }
     ensures certificate { IfOk result (λ v. IsCertificate input.now.generators mask v.cert) }
     ensures kind { IfOk result (λ v. IsTrue v.free ↔ IsFree v.cert) }

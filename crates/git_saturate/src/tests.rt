@@ -6,9 +6,10 @@ ghost use Rattle.git_algebra.specs.Operations.{total_degree};
 use crate::deciding::decide;
 use crate::{SatFault, Verdict};
 use git_base::NoMemory;
-use git_basis::{RUN_DEGREE, RUN_STEPS, Step};
+use git_basis::{RUN_DEGREE, Step};
 use git_facecert::FaceCert;
 use git_field::Fp;
+use git_limits::STEPS;
 use git_mono::Mono;
 use git_poly::Poly;
 use std::alloc::Global;
@@ -69,7 +70,7 @@ fn verdict(
     for terms in lists {
         generators.push(polynomial(alloc, terms)?)?;
     }
-    if generators.len() > 64 || !are_small(&generators) || steps > RUN_STEPS {
+    if generators.len() > 64 || !are_small(&generators) || steps > STEPS {
         return Err("generators".into());
     }
     Ok(decide(alloc, &generators, mask, steps))

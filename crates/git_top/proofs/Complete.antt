@@ -1,8 +1,6 @@
 -- What nothing refuses is done.
-use Rattle.std.proofs.Common.{◌≡◌, ◌≢◌, ◌∙◌, ℕ, ◌≤◌, ◌<◌, Bool, List, length, ap, subst, arith}
-use Rattle.git_base.specs.declared.status.Status.{Status}
+use Rattle.std.proofs.Common.{◌≡◌, ◌∙◌, ap, subst, arith}
 use Rattle.git_input.specs.Inputs.{InputValue}
-use Rattle.git_text.specs.Grammar.{IsInput}
 use Rattle.git_text.proofs.Matrices.{text_is_a_grading}
 use Rattle.git_replies.specs.Cases.{Outcome, Passes, ◌otherwise◌}
 use Rattle.git_answers.specs.Faces.{face_stops, certifies, faces_of}
@@ -18,7 +16,7 @@ use Rattle.git_make.proofs.Inputs.{one_input, samples_are_inputs}
 use Rattle.git_commands.specs.Commands.{output_of, sample_options}
 use Rattle.git_top.specs.Laws.{FacesAreDone, InputsAreDone, NothingRefuses, SamplesAreDone}
 use Rattle.git_fan.proofs.NotGood.{written_done}
-use Rattle.git_fan.proofs.FullFaces.{whole_full}
+use Rattle.git_answers.proofs.OneFan.{whole_full}
 use Rattle.git_fan.proofs.Opens.{neither}
 
 pub faces_are_done : FacesAreDone

@@ -1,20 +1,17 @@
 -- Any words and any bytes have an answer.
-use Rattle.std.proofs.Common.{◌≡◌, ◌⊎◌, ℕ, List, inl, inr, refl}
-use Rattle.std.specs.Prelude.{Bool, true, false}
+use Rattle.std.proofs.Common.{ℕ, List, inl, inr, refl}
+use Rattle.std.specs.Prelude.{true, false}
 use Rattle.git_base.specs.declared.status.Status.TheVariants.{Done, Usage}
 use Rattle.git_input.specs.Inputs.{InputValue, AreGenerators}
 use Rattle.git_grading.specs.Gradings.{IsGrading}
-use Rattle.git_text.specs.Grammar.{IsInput}
 use Rattle.git_text.specs.Writing.{input_text}
 use Rattle.git_text.proofs.Matrices.{text_is_a_grading}
 use Rattle.git_text.proofs.GeneratorLines.{are_generators}
 use Rattle.git_words.specs.Words.{IsCommand}
-use Rattle.git_words.specs.declared.commands.Sample.{Sample}
 use Rattle.git_words.specs.declared.commands.Command.{Command}
 use Rattle.git_words.specs.declared.commands.Command.TheVariants.{Fan, Faces, Make}
 use Rattle.git_words.proofs.Decided.{command_or_none}
 use Rattle.git_words.proofs.OneCommand.{commands_are_in_range}
-use Rattle.git_make.specs.Samples.{IsSample}
 use Rattle.git_make.proofs.Inputs.{some_input, samples_are_inputs}
 use Rattle.git_replies.specs.Cases.{HasSome, says}
 use Rattle.git_replies.proofs.ReadLaws.{reads_some}

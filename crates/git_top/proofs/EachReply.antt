@@ -1,6 +1,6 @@
 -- Any words and any bytes have a reply, with its certificates.
-use Rattle.std.proofs.Common.{◌≡◌, ◌⊎◌, ℕ, ◌+◌, ◌^◌, ◌<◌, ◌≤◌, List, [], ◌∷◌, ◌++◌, length, map, inl, inr, refl, sym, ap, ◌∙◌, subst, le_refl, arith, Global}
-use Rattle.std.specs.Prelude.{AllPairs, Contains, Bool, true, false}
+use Rattle.std.proofs.Common.{◌≡◌, ℕ, ◌^◌, ◌<◌, ◌≤◌, List, [], ◌∷◌, ◌++◌, length, map, inl, inr, refl, sym, ap, subst, le_refl, arith, Global}
+use Rattle.std.specs.Prelude.{AllPairs, Contains, true, false}
 use Rattle.std.specs.Global.{Vec}
 use Rattle.std.proofs.Math.Pow.{pow_mono}
 use denote.RawPtr.{null_ptr}
@@ -9,8 +9,6 @@ use Rattle.git_lemmas.proofs.Members.{contains_member, member_contains, all_memb
 use Rattle.git_base.specs.declared.status.Status.{Status}
 use Rattle.git_limits.specs.declared.TheConstants.{COLUMNS, STEPS}
 use Rattle.git_grading.specs.Gradings.{IsGrading}
-use Rattle.git_algebra.specs.Polynomials.{Polynomial}
-use Rattle.git_ideals.specs.Faces.{IsAFace}
 use Rattle.git_input.specs.Inputs.{InputValue, AreGenerators}
 use Rattle.git_facecert.specs.declared.certificate.FaceCert.TheVariants as cert
 use Rattle.git_facecert.specs.declared.certificate.FaceVerdict.{FaceVerdict}
@@ -30,7 +28,6 @@ use Rattle.git_text.proofs.Matrices.{text_is_a_grading}
 use Rattle.git_text.proofs.GeneratorLines.{are_generators}
 use Rattle.git_words.specs.Words.{IsCommand}
 use Rattle.git_words.specs.Laws.{IsInRange}
-use Rattle.git_words.specs.declared.commands.TheConstants.{STEPS_UNSET}
 use Rattle.git_words.specs.declared.commands.Command.{Command}
 use Rattle.git_words.specs.declared.commands.Command.TheVariants.{Fan, Faces, Make}
 use Rattle.git_words.proofs.OneCommand.{commands_are_in_range}
@@ -44,7 +41,8 @@ use Rattle.git_answers.specs.Faces.{face_stops, faces_of}
 use Rattle.git_answers.specs.Fan.{Options, options, written, Refuses, has_monomial, whole_stops, not_good, after_cones, after_verdicts, after_whole, refuses, fan_of}
 use Rattle.git_answers.specs.declared.output.Output.{Output}
 use Rattle.git_answers.specs.declared.output.Output.TheVariants.{Plain, Certified, Counted}
-use Rattle.git_fan.proofs.FullFaces.{whole_full, first_full}
+use Rattle.git_answers.proofs.OneFan.{whole_full}
+use Rattle.git_fan.proofs.FullFaces.{first_full}
 use Rattle.git_commands.specs.Commands.{cases_of, output_of, sample_options, InputOf, command_answer}
 use Rattle.git_top.specs.Run.{answer_to, InputFor}
 use Rattle.git_top.specs.Laws.{EachHasAReply}

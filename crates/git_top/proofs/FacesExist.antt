@@ -1,11 +1,8 @@
 -- Each input has an answer of `faces`.
-use Rattle.std.proofs.Common.{◌≡◌, ◌⊎◌, ℕ, ◌≤◌, List, [], All, inl, inr, refl}
+use Rattle.std.proofs.Common.{ℕ, List, [], inl, inr, refl}
 use Rattle.git_lemmas.proofs.Members.{all_member, contains_member}
 use Rattle.git_base.specs.declared.status.Status.{Status}
 use Rattle.git_base.specs.declared.status.Status.TheVariants as status
-use Rattle.git_basis.specs.Stops.{StopsBySteps}
-use Rattle.git_basis.specs.Laws.{DegreeStop}
-use Rattle.git_basis.specs.declared.step.Step.{Step}
 use Rattle.git_input.specs.Inputs.{InputValue}
 use Rattle.git_grading.specs.Gradings.{IsGrading}
 use Rattle.git_faces.specs.FullFaces.{AreFullFaces}

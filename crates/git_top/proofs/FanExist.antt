@@ -1,57 +1,37 @@
 -- Each input has an answer of `fan`.
-use Rattle.std.proofs.Common.{◌≡◌, ◌≢◌, ◌⊎◌, ◌∙◌, ℕ, ◌+◌, ◌-◌, ◌*◌, ◌^◌, ◌<◌, ◌≤◌, List, [], ◌∷◌, ◌++◌, length, get_or, All, inl, inr, refl, sym, ap, subst, arith}
-use Rattle.std.specs.Prelude.{◌↔◌, Contains}
+use Rattle.std.proofs.Common.{◌≡◌, ◌⊎◌, ◌∙◌, ℕ, ◌+◌, ◌*◌, ◌^◌, ◌<◌, ◌≤◌, List, [], ◌∷◌, length, get_or, inl, inr, refl, sym, ap, subst, arith}
 use Rattle.std.proofs.lemmas.Bool.{cases_lt, cases_eq}
 use Rattle.std.proofs.Math.Pow.{pow_mono}
 use Rattle.std.specs.Cmp.{tied_itself}
-use Rattle.std.specs.declared.cmp.Ordering.{Ordering}
 use Rattle.std.specs.declared.cmp.Ordering.TheVariants.{Less, Equal, Greater}
 use Rattle.git_lemmas.specs.Members.{Member}
-use Rattle.git_lemmas.proofs.Members.{contains_member, member_contains, all_member, member_all}
-use Rattle.git_lemmas.proofs.Sorting.{Ascends, ascends_of_pairs, pairs_of_ascends}
-use Rattle.git_base.specs.declared.status.Status.{Status}
+use Rattle.git_lemmas.proofs.Members.{contains_member, all_member}
+use Rattle.git_lemmas.proofs.Sorting.{Ascends, ascends_of_pairs}
 use Rattle.git_base.specs.declared.status.Status.TheVariants as status
-use Rattle.git_defs.specs.Vectors.{Vector, AllOfLength, vector_sum, units}
-use Rattle.git_defs.specs.Faces.{face, IsFullDimensional, IsLeastMask}
-use Rattle.git_defs.proofs.Lengths.{OfLength, all_of_length, of_length_all, more_of_length, none_of_length}
-use Rattle.git_geometry.proofs.Inside.{length-vector_sum}
-use Rattle.git_minors.proofs.Parts.{face_of_length}
 use Rattle.git_grading.specs.Gradings.{IsGrading}
-use Rattle.git_stages.specs.Wide.{NeverWide, IsWideAt}
 use Rattle.git_stages.specs.declared.wide.WideAt.{WideAt}
-use Rattle.git_stages.proofs.Uniqueness.{wide_not_never}
-use Rattle.git_stages.proofs.Decided.{wide_decided}
-use Rattle.git_algebra.specs.Operations.{total_degree}
 use Rattle.git_ideals.specs.Faces.{IsAFace}
 use Rattle.git_input.specs.Inputs.{InputValue, AreGenerators}
 use Rattle.git_basis.specs.Run.{after}
-use Rattle.git_basis.specs.Stops.{Ends}
 use Rattle.git_basis.proofs.Goes.{stops, has_unit_or_not}
 use Rattle.git_saturate.proofs.Verdicts.{a_face, degrees_small}
 use Rattle.git_machine.specs.Signatures.{Signature, signature_cmp}
 use Rattle.git_machine.specs.Ties.{signature_total}
-use Rattle.git_machine.specs.Reach.{Reached, IsReach, ReachExceeds}
+use Rattle.git_machine.specs.Reach.{Reached, ReachExceeds}
 use Rattle.git_machine.proofs.Once.{once_fits}
-use Rattle.git_plain.specs.Closing.{InOrder}
 use Rattle.git_plain.specs.Laws.{IsListed}
 use Rattle.git_plain.proofs.Listed.{listed_or_exceeds}
-use Rattle.git_orbit.specs.Orbits.{Fan, AreFaces, AreOrbitCones, IsFan, IsNewFault}
-use Rattle.git_orbit.specs.Signatures.{IsSignature, IsLegal, width_of}
-use Rattle.git_orbit.specs.declared.orbit.OrbitCone.{OrbitCone}
+use Rattle.git_orbit.specs.Orbits.{Fan}
+use Rattle.git_orbit.specs.Signatures.{width_of}
 use Rattle.git_orbit.specs.declared.orbit.ConesFault.TheVariants as fault
-use Rattle.git_orbit.proofs.Accepted.{cones_along, fault_along}
-use Rattle.git_orbit.proofs.Settled.{cones_or_wide, not_both}
-use Rattle.git_orbit.proofs.Existence.{a_signature}
-use Rattle.git_chamber.specs.Chambers.{first_germ, IsCell, IsNext}
-use Rattle.git_chamber.specs.Views.{IsGraph, AreConesOf}
+use Rattle.git_chamber.specs.Chambers.{IsCell, IsNext}
+use Rattle.git_chamber.specs.Views.{IsGraph}
 use Rattle.git_chamber.specs.Nexts.{one_next}
 use Rattle.git_chamber.specs.declared.cell.Cell.{Cell}
 use Rattle.git_chamber.specs.declared.cell.Cell.TheVariants as cell
 use Rattle.git_chamber.proofs.Fulls.{legal_is_full}
 use Rattle.git_chamber.proofs.Graphs.{reached_legal}
 use Rattle.git_chamber.proofs.Existence.{cell_exists, next_exists}
-use Rattle.git_chamber.proofs.Firsts.{first_legal}
-use Rattle.git_chamber.proofs.UnitGerms.{of_length_units}
 use Rattle.git_assemble.specs.Assembling.{IsGoodSignature, AllGood}
 use Rattle.git_assemble.proofs.Exists.{a_listing}
 use Rattle.git_faces.specs.FaceVerdicts.{RunEnds}
@@ -59,39 +39,18 @@ use Rattle.git_faces.specs.FullFaces.{AreFullFaces}
 use Rattle.git_faces.proofs.FullLists.{some as full_list}
 use Rattle.git_faces.proofs.FirstStops.{some as first_or_all}
 use Rattle.git_listing.specs.Listings.{Listing}
-use Rattle.git_replies.specs.Cases.{Case, Passes, HasSome, Settles, IsFirst, Outcome, says, block, ◌otherwise◌}
-use Rattle.git_answers.specs.Verdicts.{IsFullFace, StopsWith, StopsAt, start_at, whole_face}
+use Rattle.git_replies.specs.Cases.{Case, Passes, HasSome, Settles, Outcome, says, block, ◌otherwise◌}
+use Rattle.git_answers.specs.Verdicts.{IsFullFace, start_at, whole_face}
 use Rattle.git_replies.specs.Lines.{stop_text, monomial_text, wide_face_text, wide_chamber_text, table_wide_text, full_text}
-use Rattle.git_answers.specs.Fan.{Options, written, writes, IsFanOf, IsListingOf, IsOpening, IsWideFace, IsBad, IsRefused, Refuses, UpTo, whole_stops, has_monomial, other_stops, wide_cone, table_wide, table_full, not_good, listed_then, after_cones, after_verdicts, after_whole, refuses, fan_of}
+use Rattle.git_answers.specs.Fan.{Options, written, writes, IsListingOf, IsRefused, UpTo, whole_stops, has_monomial, other_stops, wide_cone, table_wide, table_full, not_good, listed_then, after_cones, after_verdicts, after_whole, refuses, fan_of}
 use Rattle.git_answers.specs.declared.output.Output.{Output}
 use Rattle.git_fan.proofs.Opens.{neither}
 use Rattle.git_top.proofs.FacesExist.{stop_of}
-use Rattle.git_fan.proofs.FullFaces.{runs_on, whole_full, StartsWhole, starts_whole, first_other}
+use Rattle.git_fan.proofs.FullFaces.{runs_on, StartsWhole, starts_whole, first_other}
 use Rattle.git_fan.proofs.NotGood.{good_not_refused}
-use Rattle.git_fan.proofs.OneFan.{one_fan, opening_along}
-
--- ---- those of a list that are accepted
-record Kept (P : ℕ → Type 0) (ms us : List ℕ) : Type 0 where
-  falls : Ascends (λ (m n : ℕ). n < m) us
-  to : (m : ℕ) → Member m us → Member m ms × P m
-  back : (m : ℕ) → Member m ms → P m → Member m us
-
-kept : (P : ℕ → Type 0) (ms : List ℕ) → Ascends (λ (m n : ℕ). n < m) ms → ((m : ℕ) → Member m ms → P m ⊎ (P m → ⊥)) → (us : List ℕ) × Kept P ms us
-kept P [] falls decide = ([], record { falls = tt; to = λ m o. absurd o; back = λ m o. absurd o })
-kept P (m ∷ ms) falls decide = by (decide m (inl refl)) (kept P ms falls.1 (λ n o. decide n (inr o))) where
-  by : P m ⊎ (P m → ⊥) → (us : List ℕ) × Kept P ms us → (us : List ℕ) × Kept P (m ∷ ms) us
-  by (inl p) rest = (m ∷ rest.0, record { falls = ((λ n o. falls.0 n (rest.1.to n o).0), rest.1.falls); to = to; back = back }) where
-    to : (n : ℕ) → Member n (m ∷ rest.0) → Member n (m ∷ ms) × P n
-    to n (inl e) = (inl e, subst P e p)
-    to n (inr o) = let t = rest.1.to n o in (inr t.0, t.1)
-
-    back : (n : ℕ) → Member n (m ∷ ms) → P n → Member n (m ∷ rest.0)
-    back n (inl e) q = inl e
-    back n (inr o) q = inr (rest.1.back n o q)
-  by (inr out) rest = (rest.0, record { falls = rest.1.falls; to = λ n o. (let t = rest.1.to n o in (inr t.0, t.1)); back = back }) where
-    back : (n : ℕ) → Member n (m ∷ ms) → P n → Member n rest.0
-    back n (inl e) q = absurd (out (subst P (sym e) q))
-    back n (inr o) q = rest.1.back n o q
+use Rattle.git_answers.proofs.OneFan.{one_fan, opening_along, whole_full}
+use Rattle.git_input_cones.specs.InputCones.{IsWideFault}
+use Rattle.git_input_cones.proofs.Openings.{HasOpening, wide_or_opens}
 
 -- the fan of an input and its listing
 pub record HasChambers (v : InputValue) : Type 0 where
@@ -172,106 +131,33 @@ module _ (v : InputValue) (n : Options) (g : IsGrading v.degrees.k v.degrees.col
   ]
 
   module _ (runs : (m : ℕ) → IsFullFace v m → RunEnds v.generators n.steps m) (a : IsAFace v.generators (whole_face v)) where
-    -- ---- the full a-faces
-    is_full : (m : ℕ) → Member m full.0 → IsFullFace v m
-    is_full m o = (full.1.each m).0 (member_contains m full.0 o)
+    decide : (m : ℕ) → IsFullFace v m → IsAFace v.generators m ⊎ (IsAFace v.generators m → ⊥)
+    decide m f = face_decided m f (runs m f)
 
-    among : (m : ℕ) → IsFullFace v m → Member m full.0
-    among m f = contains_member m full.0 ((full.1.each m).1 f)
+    wide_some : (mask : ℕ) (at : WideAt) → IsWideFault v (fault.Wide mask at) → wide_cone v (says status.Wide (wide_face_text mask at))
+    wide_some mask at h = (mask, h.0, (at, h.1, refl))
 
-    us : (us : List ℕ) × Kept (IsAFace v.generators) full.0 us
-    us = kept (IsAFace v.generators) full.0 (ascends_of_pairs (λ (m n : ℕ). n < m) full.0 full.1.descending) (λ m o. face_decided m (is_full m o) (runs m (is_full m o)))
-
-    faces : AreFaces v.degrees.k v.degrees.columns us.0
-    faces = record {
-      in_range = member_all (λ m. m < 2 ^ length v.degrees.columns) us.0 (λ m o. (is_full m (us.1.to m o).0).in_range);
-      full = member_all (IsFullDimensional v.degrees.k v.degrees.columns) us.0 (λ m o. (is_full m (us.1.to m o).0).full);
-      descending = pairs_of_ascends (λ (m n : ℕ). n < m) us.0 us.1.falls;
-    }
-
-    same : (m : ℕ) → m < 2 ^ length v.degrees.columns → IsFullDimensional v.degrees.k v.degrees.columns m → Contains us.0 m ↔ IsAFace v.generators m
-    same m low f = (λ c. (us.1.to m (contains_member m us.0 c)).1, λ b. member_contains m us.0 (us.1.back m (among m (record { in_range = low; full = f; is_accepted = tt })) b))
-
-    back : (m : ℕ) → m < 2 ^ length v.degrees.columns → IsFullDimensional v.degrees.k v.degrees.columns m → IsAFace v.generators m ↔ Contains us.0 m
-    back m low f = let s = same m low f in (s.1, s.0)
-
-    -- ---- cones
-    wide_some : (mask : ℕ) (at : WideAt) → IsNewFault v.degrees.k v.degrees.columns (Contains us.0) (fault.Wide mask at) → wide_cone v (says status.Wide (wide_face_text mask at))
-    wide_some mask at given =
-        let f = fault_along v.degrees.k v.degrees.columns (Contains us.0) (IsAFace v.generators) same mask at given in
-        let here : IsWideFace v mask at = (f.0.is_least, f.1) in (
-          mask,
-          record {
-            holds = (at, here);
-            first = λ m p. elim (cases_lt m mask) [
-              | inl below ↦ absurd (wide_not_never v.degrees.k (face v.degrees.columns m) p.0.stage p.0.what p.1.1 (f.0.first m p.1.0 below))
-              | inr up ↦ up
-            ];
-          },
-          (at, here, refl),
-        )
-
-    none_wide : (list : List OrbitCone) → AreOrbitCones v.degrees.k v.degrees.columns (Contains us.0) list → Passes (wide_cone v)
-    none_wide list c o h =
-        let mask = h.0 in
-        let given : IsNewFault v.degrees.k v.degrees.columns (IsAFace v.generators) (fault.Wide mask h.2.0) = (
-          record {
-            is_least = h.2.1.0;
-            first = λ m least low. elim (narrow_or_wide m least) [ inl narrow ↦ narrow | inr w ↦ (let up = h.1.first m (w.0, (least, w.1)) in absurd (omega (arith, up, low))) ];
-          },
-          h.2.1.1,
-        ) in
-        not_both v.degrees.k v.degrees.columns us.0 g faces mask h.2.0 list (fault_along v.degrees.k v.degrees.columns (IsAFace v.generators) (Contains us.0) back mask h.2.0 given) c
-      where
-        narrow_or_wide : (m : ℕ) → IsLeastMask v.degrees.k v.degrees.columns (IsAFace v.generators) m → NeverWide v.degrees.k (face v.degrees.columns m) ⊎ ((at : WideAt) × IsWideAt v.degrees.k (face v.degrees.columns m) at.stage at.what)
-        narrow_or_wide m least = elim (wide_decided v.degrees.k (face v.degrees.columns m) (of_length_all v.degrees.k (face v.degrees.columns m) (face_of_length v.degrees.k v.degrees.columns m (all_of_length v.degrees.k v.degrees.columns g.matrix.lengths))) least.is_face.full) [
-          | inl never ↦ inl never
-          | inr w ↦ inr (record { stage = w.0; what = w.1 }, w.2)
-        ]
-
-    module _ (list : List OrbitCone) (cones : AreOrbitCones v.degrees.k v.degrees.columns (Contains us.0) list) where
+    module _ (opened : HasOpening v) where
       abbrev fan : Fan
-      fan = record { k = v.degrees.k; list = list }
+      fan = opened.fan
 
-      is_fan_of : IsFanOf v fan
-      is_fan_of = record { k = refl; cones = cones_along v.degrees.k v.degrees.columns (Contains us.0) (IsAFace v.generators) same list cones }
-
-      is_fan : IsFan v.degrees.k list
-      is_fan = record { columns = v.degrees.columns; grading = g; masks = us.0; faces = faces; cones = cones }
-
-      is_graph : IsGraph (record { fan = fan; columns = v.degrees.columns })
-      is_graph = record {
-        grading = g;
-        cones = record { masks = us.0; faces = faces; whole = member_contains (whole_face v) us.0 (us.1.back (whole_face v) (among (whole_face v) (whole_full v g)) a); cones = cones };
-      }
+      abbrev first : Signature
+      first = opened.first
 
       table_wide_settles : Settles (table_wide v n)
       table_wide_settles = elim (cases_lt (2 ^ 24) ((n.table + 64) * width_of fan)) [
-        | inl more ↦ inl (says status.TableWide (table_wide_text n.table (width_of fan)), (fan, is_fan_of, more, refl))
-        | inr fits ↦ inr (λ o h. (let more = subst (λ (f : Fan). 2 ^ 24 < (n.table + 64) * width_of f) (one_fan v h.0 fan h.1 is_fan_of) h.2 in omega (arith, fits, more)))
+        | inl more ↦ inl (says status.TableWide (table_wide_text n.table (width_of fan)), (fan, opened.opening.is_fan, more, refl))
+        | inr fits ↦ inr (λ o h. (let more = subst (λ (f : Fan). 2 ^ 24 < (n.table + 64) * width_of f) (one_fan v h.0 fan h.1 opened.opening.is_fan) h.2 in omega (arith, fits, more)))
       ]
 
-      -- ---- the first signature, and what is reached from it
-      sum_long : AllOfLength v.degrees.k (vector_sum v.degrees.k v.degrees.columns ∷ [])
-      sum_long = of_length_all v.degrees.k (vector_sum v.degrees.k v.degrees.columns ∷ [])
-          (more_of_length v.degrees.k (vector_sum v.degrees.k v.degrees.columns) [] (length-vector_sum v.degrees.k v.degrees.columns (all_of_length v.degrees.k v.degrees.columns g.matrix.lengths)) (none_of_length v.degrees.k))
+      -- ---- what is reached from the first signature
+      listed : ReachExceeds (IsNext fan) first n.table ⊎ ((xs : List Signature) × IsListed (IsNext fan) first n.table xs)
+      listed = listed_or_exceeds (IsNext fan) first n.table (λ s r. next_exists fan s opened.is_fan (legal_is_full fan s opened.is_fan (reached_legal fan first s opened.legal r))) (λ s x y r p q. one_next fan s x y p q)
 
-      first : (sig : Signature) × IsSignature fan (first_germ v.degrees.k v.degrees.columns) sig
-      first = a_signature fan (first_germ v.degrees.k v.degrees.columns) (of_length_units v.degrees.k (vector_sum v.degrees.k v.degrees.columns ∷ []) sum_long)
-
-      opening : IsOpening v fan first.0
-      opening = record { is_fan = is_fan_of; is_first = first.1 }
-
-      legal : IsLegal fan first.0
-      legal = first_legal (record { fan = fan; columns = v.degrees.columns }) is_graph first.0 first.1
-
-      listed : ReachExceeds (IsNext fan) first.0 n.table ⊎ ((xs : List Signature) × IsListed (IsNext fan) first.0 n.table xs)
-      listed = listed_or_exceeds (IsNext fan) first.0 n.table (λ s r. next_exists fan s is_fan (legal_is_full fan s is_fan (reached_legal fan first.0 s legal r))) (λ s x y r p q. one_next fan s x y p q)
-
-      module _ (xs : List Signature) (l : IsListed (IsNext fan) first.0 n.table xs) where
+      module _ (xs : List Signature) (l : IsListed (IsNext fan) first n.table xs) where
         fits : Passes (table_full v n)
         fits o h =
-            let e = opening_along v h.0 fan h.1 first.0 (λ f s. ReachExceeds (IsNext f) s n.table) h.2 opening h.3 in
+            let e = opening_along v h.0 fan h.1 first (λ f s. ReachExceeds (IsNext f) s n.table) h.2 opened.opening h.3 in
             let few = once_fits e.some xs e.once (λ i d low. l.reach.complete (get_or e.some i d) (e.reached i d low)) in
             let many = e.many in let at_most = l.few in omega (arith, few, many, at_most)
 
@@ -279,8 +165,8 @@ module _ (v : InputValue) (n : Options) (g : IsGrading v.degrees.k v.degrees.col
         by_cell s (cell.Good c) is = inl (c, is)
         by_cell s (cell.Wide at) is = inr (says status.Wide (wide_chamber_text s at), (cell.Wide at, is, refl))
 
-        good_or_refused : (s : Signature) → Reached (IsNext fan) first.0 s → IsGoodSignature fan s ⊎ ((o : Outcome) × IsRefused fan s o)
-        good_or_refused s r = let c = cell_exists fan s is_fan (legal_is_full fan s is_fan (reached_legal fan first.0 s legal r)) in by_cell s c.0 c.1
+        good_or_refused : (s : Signature) → Reached (IsNext fan) first s → IsGoodSignature fan s ⊎ ((o : Outcome) × IsRefused fan s o)
+        good_or_refused s r = let c = cell_exists fan s opened.is_fan (legal_is_full fan s opened.is_fan (reached_legal fan first s opened.legal r)) in by_cell s c.0 c.1
 
         record FirstRefused (ys : List Signature) : Type 0 where
           sig : Signature
@@ -295,7 +181,7 @@ module _ (v : InputValue) (n : Options) (g : IsGrading v.degrees.k v.degrees.col
         self_up : (s t : Signature) → s ≡ t → UpTo s t
         self_up s t e h = let f : Equal ≡ Greater = sym (tied_itself signature_total s) ∙ ap (λ (u : Signature). signature_cmp s u) e ∙ h in cc f
 
-        search_bad : (ys : List Signature) → Ascends (λ s t. signature_cmp s t ≡ Less) ys → ((s : Signature) → Member s ys → Reached (IsNext fan) first.0 s) → ((s : Signature) → Member s ys → IsGoodSignature fan s) ⊎ FirstRefused ys
+        search_bad : (ys : List Signature) → Ascends (λ s t. signature_cmp s t ≡ Less) ys → ((s : Signature) → Member s ys → Reached (IsNext fan) first s) → ((s : Signature) → Member s ys → IsGoodSignature fan s) ⊎ FirstRefused ys
         search_bad [] falls reached = inl (λ s o. absurd o)
         search_bad (y ∷ ys) falls reached = by (good_or_refused y (reached y (inl refl))) (search_bad ys falls.1 (λ s o. reached s (inr o))) where
           by : IsGoodSignature fan y ⊎ ((o : Outcome) × IsRefused fan y o) → ((s : Signature) → Member s ys → IsGoodSignature fan s) ⊎ FirstRefused ys → ((s : Signature) → Member s (y ∷ ys) → IsGoodSignature fan s) ⊎ FirstRefused (y ∷ ys)
@@ -315,8 +201,8 @@ module _ (v : InputValue) (n : Options) (g : IsGrading v.degrees.k v.degrees.col
             before = λ s o. elim o [ inl e ↦ inl (subst (IsGoodSignature fan) e good) | inr later ↦ f.before s later ];
           })
 
-        reached_in : (s : Signature) → Member s xs → Reached (IsNext fan) first.0 s
-        reached_in s o = all_member (Reached (IsNext fan) first.0) s xs l.reach.sound o
+        reached_in : (s : Signature) → Member s xs → Reached (IsNext fan) first s
+        reached_in s o = all_member (Reached (IsNext fan) first) s xs l.reach.sound o
 
         searched : ((s : Signature) → Member s xs → IsGoodSignature fan s) ⊎ FirstRefused xs
         searched = search_bad xs (ascends_of_pairs (λ (s t : Signature). signature_cmp s t ≡ Less) xs l.order) reached_in
@@ -324,8 +210,8 @@ module _ (v : InputValue) (n : Options) (g : IsGrading v.degrees.k v.degrees.col
         bad_named : (f : FirstRefused xs) → not_good v f.outcome
         bad_named f = (
           fan,
-          first.0,
-          opening,
+          first,
+          opened.opening,
           (
             f.sig,
             record {
@@ -340,17 +226,17 @@ module _ (v : InputValue) (n : Options) (g : IsGrading v.degrees.k v.degrees.col
         reach_settles = elim searched [
           | inr f ↦ inl (f.outcome, bad_named f)
           | inl good ↦ (
-              let all : AllGood fan first.0 = λ s r. good s (contains_member s xs (l.reach.complete s r)) in
-              let listing = a_listing fan first.0 (length v.degrees.columns) xs is_fan legal l.reach all in
+              let all : AllGood fan first = λ s r. good s (contains_member s xs (l.reach.complete s r)) in
+              let listing = a_listing fan first (length v.degrees.columns) xs opened.is_fan opened.legal l.reach all in
               inr (
-                (λ o h. (let there = opening_along v fan h.0 first.0 h.1 (λ f s. AllGood f s) opening h.2 all in good_not_refused h.0 h.3.0 o (there h.3.0 h.3.1.holds.0) h.3.2)),
-                record { fan = fan; graph = is_graph; listing = listing.0; is = record { first = first.0; opening = opening; listing = listing.1 } },
+                (λ o h. (let there = opening_along v fan h.0 first h.1 (λ f s. AllGood f s) opened.opening h.2 all in good_not_refused h.0 h.3.0 o (there h.3.0 h.3.1.holds.0) h.3.2)),
+                record { fan = fan; graph = opened.graph; listing = listing.0; is = record { first = first; opening = opened.opening; listing = listing.1 } },
               ))
         ]
 
       full_settles : Settled (λ o. (table_full v n otherwise not_good v) o)
       full_settles = elim listed [
-        | inl more ↦ inl (says status.Full (full_text n.table), inl (fan, first.0, opening, more, refl))
+        | inl more ↦ inl (says status.Full (full_text n.table), inl (fan, first, opened.opening, more, refl))
         | inr l ↦ settled_of (table_full v n) (not_good v) (inr (fits l.0 l.1)) (λ p. reach_settles l.0 l.1)
       ]
 
@@ -358,9 +244,9 @@ module _ (v : InputValue) (n : Options) (g : IsGrading v.degrees.k v.degrees.col
       cones_settle = settled_of (table_wide v n) (table_full v n otherwise not_good v) table_wide_settles (λ p. full_settles)
 
     verdicts_settle : Settled (after_verdicts n v)
-    verdicts_settle = elim (cones_or_wide v.degrees.k v.degrees.columns us.0 g faces) [
-      | inl r ↦ settled_of (wide_cone v) (after_cones n v) (inr (none_wide r.0 r.1)) (λ p. cones_settle r.0 r.1)
-      | inr r ↦ inl (says status.Wide (wide_face_text r.0 r.1), inl (wide_some r.0 r.1 r.2))
+    verdicts_settle = elim (wide_or_opens v g decide a) [
+      | inl r ↦ inl (says status.Wide (wide_face_text r.0 r.1), inl (wide_some r.0 r.1 r.2))
+      | inr r ↦ settled_of (wide_cone v) (after_cones n v) (inr r.0) (λ p. cones_settle r.1)
     ]
 
   -- an input is refused, or its chambers are listed

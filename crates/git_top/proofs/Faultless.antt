@@ -1,6 +1,6 @@
 -- No answer is a fault of reading, of writing or of memory.
 use Rattle.std.specs.Prelude.{true, false}
-use Rattle.std.proofs.Common.{◌≡◌, ◌≤◌, ℕ, Bool, List, inl, inr, sym, ◌∙◌, ap, subst, arith, Option}
+use Rattle.std.proofs.Common.{◌≡◌, ◌≤◌, ℕ, List, inl, inr, sym, ◌∙◌, ap, subst, arith, Option}
 use Rattle.git_base.specs.declared.status.Status.{Status}
 use Rattle.git_base.specs.declared.status.Status.TheVariants.{Usage, ReadFault, WriteFault, NoMemory}
 use Rattle.git_base.specs.Status.{code_of}

@@ -1,10 +1,9 @@
 -- Words and bytes have one answer.
-use Rattle.std.proofs.Common.{◌≡◌, ◌≢◌, ◌⊎◌, ◌∙◌, ℕ, ◌≤◌, ◌<◌, List, [], ◌∷◌, length, Option, Some, None, inl, inr, refl, sym, ap, subst, arith}
-use Rattle.std.specs.Prelude.{Bool, true, false}
+use Rattle.std.proofs.Common.{◌≡◌, ◌≢◌, ◌∙◌, ℕ, ◌≤◌, List, length, refl, sym, ap, subst, arith}
+use Rattle.std.specs.Prelude.{true, false}
 use Rattle.std.specs.declared.cmp.Ordering.{Ordering}
 use Rattle.std.specs.declared.cmp.Ordering.TheVariants.{Less, Equal, Greater}
 use Rattle.std.specs.Ordering.{ordering_reverse, is_eq}
-use Rattle.git_base.specs.declared.status.Status.{Status}
 use Rattle.git_base.specs.declared.status.Status.TheVariants as status
 use Rattle.git_defs.specs.Faces.{face}
 use Rattle.git_stages.specs.declared.wide.WideAt.{WideAt}
@@ -21,10 +20,10 @@ use Rattle.git_chamber.proofs.Uniqueness.{one_cell}
 use Rattle.git_chamber.specs.declared.cell.Cell.{Cell}
 use Rattle.git_chamber.specs.declared.cell.Cell.TheVariants as cell
 use Rattle.git_assemble.proofs.OneListing.{one_listing}
-use Rattle.git_replies.specs.Cases.{Case, Passes, HasOne, IsFirst, Outcome, says, ◌otherwise◌}
+use Rattle.git_replies.specs.Cases.{Case, HasOne, IsFirst, says, ◌otherwise◌}
 use Rattle.git_answers.specs.Verdicts.{StopsWith, StopsAt, whole_face}
 use Rattle.git_replies.specs.Lines.{stop_text, wide_face_text, table_wide_text}
-use Rattle.git_answers.specs.Fan.{Options, IsOpening, IsBad, IsRefused, Refuses, UpTo, IsWideFace, whole_stops, has_monomial, other_stops, wide_cone, table_wide, table_full, written, writes, not_good, lists, listed_then, after_cones, after_verdicts, after_whole, refuses, fan_of, options, IsListingOf}
+use Rattle.git_answers.specs.Fan.{Options, IsBad, IsRefused, Refuses, UpTo, IsWideFace, whole_stops, has_monomial, other_stops, wide_cone, table_wide, table_full, written, writes, not_good, lists, listed_then, after_cones, after_verdicts, after_whole, refuses, fan_of, options, IsListingOf}
 use Rattle.git_answers.specs.declared.output.Output.{Output}
 use Rattle.git_answers.specs.declared.output.Output.TheVariants.{Counted}
 use Rattle.git_replies.proofs.CaseLaws.{one_of, one_by, one_is, one_first}
@@ -38,9 +37,9 @@ use Rattle.git_make.specs.Samples.{IsSample}
 use Rattle.git_make.proofs.Inputs.{one_input}
 use Rattle.git_text.specs.Writing.{input_text}
 use Rattle.git_commands.specs.Commands.{cases_of, output_of, sample_options, command_answer}
-use Rattle.git_top.specs.Run.{no_command, answer_to}
+use Rattle.git_top.specs.Run.{no_command}
 use Rattle.git_top.specs.Laws.{OneAnswer}
-use Rattle.git_fan.proofs.OneFan.{one_fan, opening_along}
+use Rattle.git_answers.proofs.OneFan.{one_fan, opening_along}
 
 -- ---- fan
 

@@ -1,5 +1,5 @@
 -- What the program replies, from what its commands do.
-use Rattle.std.proofs.Common.{◌≡◌, ℕ, Bool, List, [], Option, refl, inl, inr}
+use Rattle.std.proofs.Common.{ℕ, Bool, List, [], Option, refl, inl, inr}
 use Rattle.git_base.specs.declared.status.Status.{Status}
 use Rattle.git_base.specs.declared.status.Status.TheVariants.{Usage}
 use Rattle.git_words.specs.Words.{IsCommand}

@@ -1,3 +1,4 @@
 pub mod ExactLines
 pub mod ExactText
 pub mod Answers
+pub mod Small

@@ -1,6 +1,9 @@
 -- What holds of texts of weights.
-use Rattle.std.specs.Prelude.{◌≡◌, ◌⊎◌, ◌↔◌, ℕ, List, Ok}
-use Rattle.git_defs.specs.Vectors.{Vector}
+use Rattle.std.specs.Prelude.{◌≡◌, ◌⊎◌, ◌↔◌, ◌≤◌, ℕ, List, Ok, All, length}
+use Rattle.git_defs.specs.Vectors.{AllOfLength, Vector}
+use Rattle.git_ints.specs.Padded.{AreWithin}
+use Rattle.git_limits.specs.declared.TheConstants.{ENTRY}
+use Rattle.git_weights.specs.declared.limits.TheConstants.{WEIGHTS}
 use Rattle.git_text.specs.declared.fault.BadKind.{BadKind}
 use Rattle.git_weights.specs.declared.fault.WeightsFault.TheVariants.{Bad}
 use Rattle.git_weights.specs.Grammar.{IsWeights}
@@ -26,3 +29,13 @@ WeightsHaveNoFault = (k : ℕ) (bytes : List ℕ) (vs : List Vector) (line colum
 -- each text is that of some weights or has a first fault
 abbrev pub WeightsOrFirstFault : Type 0
 WeightsOrFirstFault = (k : ℕ) (bytes : List ℕ) → ((vs : List Vector) × IsWeights k bytes vs) ⊎ ((line : ℕ) × (column : ℕ) × (kind : BadKind) × IsFirstFault k bytes line column kind)
+
+-- the weights of a text are one to 1000 vectors of k entries, each at most 2^40 in absolute value
+pub record AreSmall (k : ℕ) (vs : List Vector) : Type 0 where
+  pub some : 1 ≤ length vs
+  pub few : length vs ≤ WEIGHTS
+  pub lengths : AllOfLength k vs
+  pub within : All (AreWithin ENTRY) vs
+
+abbrev pub WeightsAreSmall : Type 0
+WeightsAreSmall = (k : ℕ) (bytes : List ℕ) (vs : List Vector) → IsWeights k bytes vs → AreSmall k vs

@@ -1,7 +1,7 @@
-use Rattle.std.proofs.Common.{length, refl, subst}
+use Rattle.std.proofs.Common.{refl, subst}
 use Rattle.git_facecert.specs.declared.certificate.Accepted.{Accepted}
 use Rattle.git_facecert.specs.Answers.{IsAnswer}
-use Rattle.git_check_faces.proofs.Reasons.{accepted_is, refused_is}
+use Rattle.git_check_faces.proofs.Reasons.{answers_yes, refused_is}
 use Rattle.git_check_faces.proofs.faces.is_accepted.Goals as goal
 
 pub returns-in-Yes : goal.returns-in-Yes
@@ -9,7 +9,7 @@ returns-in-Yes c =
     let v = c.args.input.now in
     let f = c.args.face.now in
     let answer = subst (λ (a : Accepted). IsAnswer v.generators f.mask f.cert a) c.in-Yes.is c.in_ok-accept.ensures in
-    (λ t. accepted_is (length v.degrees.columns) v.generators f.mask f.cert c.requires.cert answer, λ h. refl)
+    (λ t. (answers_yes v.generators f.mask f.cert).1 answer, λ h. refl)
 
 pub returns-in-No : goal.returns-in-No
 returns-in-No c =

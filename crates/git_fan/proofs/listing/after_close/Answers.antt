@@ -7,7 +7,8 @@ use Rattle.git_plain.specs.Closing.{InOrder, signatures_of}
 use Rattle.git_chamber.specs.Chambers.{IsCell, IsNext}
 use Rattle.git_answers.specs.Fan.{not_good, table_full, options}
 use Rattle.git_replies.specs.Lines.{full_text}
-use Rattle.git_fan.proofs.OneFan.{opens, opening_along}
+use Rattle.git_answers.proofs.OneFan.{opening_along}
+use Rattle.git_fan.proofs.NotGood.{opens}
 use Rattle.git_fan.proofs.NotGood.{closure_of}
 use Rattle.git_fan.proofs.Opens.{decides, listed_passed}
 use Rattle.git_fan.proofs.listing.after_close.Goals as goal

@@ -6,7 +6,7 @@ use Rattle.git_grading.specs.Gradings.{Degrees}
 use Rattle.git_replies.specs.Cases.{◌otherwise◌}
 use Rattle.git_answers.specs.Fan.{IsFanOf, not_good, table_full, table_wide, options}
 use Rattle.git_replies.specs.Lines.{table_wide_text}
-use Rattle.git_fan.proofs.OneFan.{one_fan}
+use Rattle.git_answers.proofs.OneFan.{one_fan}
 use Rattle.git_fan.proofs.NotGood.{few_product}
 use Rattle.git_fan.proofs.Opens.{decides, left_of}
 use Rattle.git_fan.proofs.opening.after_cones.Goals as goal

@@ -8,7 +8,7 @@ use Rattle.git_replies.proofs.reading.answer_to_fault.Goals as goal
 
 pub returns-in-Bad : goal.returns-in-Bad
 returns-in-Bad c =
-    IfOk-weaker c.refused.result _ _ (λ a h. (
+    IfOk-weaker c.input_refusal.result _ _ (λ a h. (
       h.0,
       inr (
         few_pass c.args.bytes.now c.requires.few,
@@ -20,4 +20,4 @@ returns-in-Bad c =
           is = ap (says BadInput) (h.1 ∙ ap (λ (m : ℕ). fault_text m c.in-Bad.line c.in-Bad.column c.in-Bad.kind) c.announced_variables.ensures.value);
         },
       ),
-    )) c.refused.ensures
+    )) c.input_refusal.ensures

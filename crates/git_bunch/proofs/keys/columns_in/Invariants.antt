@@ -1,0 +1,7 @@
+use Rattle.std.proofs.Common.{◌<◌, ◌^◌, ◌-◌, drop, length}
+use Rattle.git_defs.specs.Cones.{Cut}
+use Rattle.git_orbit.specs.Keys.{Selects}
+use Rattle.git_bunch.proofs.keys.columns_in.Given as goal
+
+abbrev pub invariant-loop-j : goal.invariant-loop-j
+invariant-loop-j l = Selects (Cut l.k l.cone.facets) (drop (length l.columns - l.j) l.columns) l.mask × (l.mask < 2 ^ l.j)

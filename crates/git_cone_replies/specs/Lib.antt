@@ -1,0 +1,3 @@
+pub mod ConeLines
+pub mod ConeCases
+pub mod Laws

@@ -1,0 +1,4 @@
+pub mod Decides
+pub mod Exists
+pub mod Once
+mod Shown

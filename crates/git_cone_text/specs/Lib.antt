@@ -1,0 +1,2 @@
+pub mod ConesText
+pub mod Laws

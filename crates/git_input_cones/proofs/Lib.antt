@@ -1,0 +1,4 @@
+pub mod Masks
+pub mod Accepted
+pub mod Made
+pub mod Openings
