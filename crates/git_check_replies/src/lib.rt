@@ -8,3 +8,6 @@ mod lines;
 
 pub use answering::{check_answer, check_source};
 pub use lines::{invalid_line, valid_line};
+
+#[cfg(test)]
+mod tests;
