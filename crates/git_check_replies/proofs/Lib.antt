@@ -1,3 +1,5 @@
 pub mod Sizes
 pub mod Answered
 pub mod OneText
+pub mod FitCerts
+pub mod Written

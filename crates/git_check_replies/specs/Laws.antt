@@ -1,6 +1,10 @@
 -- What holds of checking bytes.
 use Rattle.std.specs.Prelude.{◌≡◌, ℕ, ◌≤◌, List, ◌++◌, length, true}
 use Rattle.git_base.specs.declared.status.Status.TheVariants.{Done}
+use Rattle.git_grading.specs.Gradings.{IsGrading}
+use Rattle.git_answers.specs.Ends.{spelled}
+use Rattle.git_answers.specs.Fan.{Options, fan_of}
+use Rattle.git_answers.specs.declared.output.Output.TheVariants.{Certified}
 use Rattle.git_input.specs.Inputs.{InputValue}
 use Rattle.git_text.specs.Grammar.{IsInput}
 use Rattle.git_lines.specs.Lines.{is_ended}
@@ -31,3 +35,17 @@ ValidTextsAreValid = (front : List ℕ) (v : InputValue) (l : Listing) (vs : Lis
 abbrev pub OnlyValidTextsAreValid : Type 0
 OnlyValidTextsAreValid = (bytes text : List ℕ) → check_case bytes (says Done text)
     → (x : CheckText) × IsCheckText bytes x × IsValid x.input x.listing x.certs × (text ≡ valid_text)
+
+-- ---- what `fan` writes
+
+-- the text of a listing and of certificates within the limits, which are valid beside the input
+pub record IsValidText (v : InputValue) (text : List ℕ) : Type 0 where
+  pub listing : Listing
+  pub certs : List FaceVerdict
+  pub is : text ≡ listing_text listing ++ certificates_text certs
+  pub fits : FitsCerts (variables v) (blocks_of certs)
+  pub valid : IsValid v listing (blocks_of certs)
+
+-- what `fan` writes with certificates where it is done is such a text, whatever its options
+abbrev pub FanWritesValidTexts : Type 0
+FanWritesValidTexts = (v : InputValue) (n : Options) (text : List ℕ) → IsGrading v.degrees.k v.degrees.columns → spelled v (fan_of n Certified v) Done text → IsValidText v text

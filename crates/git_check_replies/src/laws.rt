@@ -1,5 +1,5 @@
 //! What holds of checking bytes. Each function is a law: its contract says it.
-ghost use Rattle.git_check_replies.specs.Laws.{OneAnswer, OnlyValidTextsAreValid, ValidTextsAreValid};
+ghost use Rattle.git_check_replies.specs.Laws.{FanWritesValidTexts, OneAnswer, OnlyValidTextsAreValid, ValidTextsAreValid};
 
 /// Bytes have one answer at most.
 pub fn one_answer()
@@ -14,4 +14,9 @@ pub fn valid_texts_are_valid()
 /// And only an input with a valid listing and valid certificates after it is.
 pub fn only_valid_texts_are_valid()
     ensures { OnlyValidTextsAreValid }
+{}
+
+/// What `fan` writes with certificates, where it is done, is a listing and certificates that are valid beside its input.
+pub fn fan_writes_valid_texts()
+    ensures { FanWritesValidTexts }
 {}

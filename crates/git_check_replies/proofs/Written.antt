@@ -1,0 +1,99 @@
+-- What `fan` writes with certificates is valid beside its input.
+use Rattle.std.proofs.Common.{◌≡◌, ℕ, List, ◌++◌, map, refl, sym, ap, ◌∙◌, subst, inl, inr}
+use Rattle.std.specs.Prelude.{slice_get, Some}
+use Rattle.git_base.specs.declared.status.Status.{Status}
+use Rattle.git_base.specs.declared.status.Status.TheVariants as statuses
+use Rattle.git_grading.specs.Gradings.{IsGrading}
+use Rattle.git_orbit.specs.Orbits.{Fan}
+use Rattle.git_ideals.specs.Faces.{IsAFace}
+use Rattle.git_input.specs.Inputs.{InputValue}
+use Rattle.git_facecert.specs.declared.certificate.FaceCert.{FaceCert}
+use Rattle.git_facecert.specs.declared.certificate.FaceCert.TheVariants.{Free, Monomial}
+use Rattle.git_facecert.specs.declared.certificate.FaceVerdict.{FaceVerdict}
+use Rattle.git_saturate.specs.Verdicts.{IsFree}
+use Rattle.git_listing.specs.Listings.{Listing}
+use Rattle.git_listing.specs.ListingText.{listing_text}
+use Rattle.git_certtext.specs.CertificateText.{certificates_text}
+use Rattle.git_replies.specs.Cases.{Outcome, Passes, says}
+use Rattle.git_answers.specs.Ends.{spelled}
+use Rattle.git_answers.specs.Fan.{IsListingOf, IsRefused, Options, after_cones, after_verdicts, after_whole, fan_of, has_monomial, lists, refuses, whole_stops, writes, written}
+use Rattle.git_answers.specs.Verdicts.{AreVerdicts, IsTail, IsVerdict, StopsWith, whole_face}
+use Rattle.git_answers.specs.declared.output.Output.TheVariants.{Certified}
+use Rattle.git_answers.proofs.OneFan.{whole_full}
+use Rattle.git_chamber.specs.declared.cell.Cell.TheVariants as cell
+use Rattle.git_asked.proofs.Places.{all_at, map_from, place_of}
+use Rattle.git_check_faces.proofs.Exact.{verdicts_accepted}
+use Rattle.git_check_replies.specs.Laws.{IsValidText}
+use Rattle.git_check_replies.proofs.FitCerts.{verdicts_fit}
+
+-- ---- the refusals don't end as done
+
+stops_not_done : (v : InputValue) (limit mask : ℕ) (s : Status) → StopsWith v limit mask s → s ≡ statuses.Done → ⊥
+stops_not_done v limit mask s (inl h) e = let f = sym h.0 ∙ e in cc f
+stops_not_done v limit mask s (inr h) e = let f = sym h.0 ∙ e in cc f
+
+not_done : (o : Outcome) (s : Status) (text : List ℕ) → o.status ≡ statuses.Done → o ≡ says s text → s ≡ statuses.Done
+not_done o s text e is = sym (ap (λ (p : Outcome). p.status) is) ∙ e
+
+refused_not_done : (fan : Fan) (sig : List ℕ) (o : Outcome) → IsRefused fan sig o → o.status ≡ statuses.Done → ⊥
+refused_not_done fan sig o (cell.Good c, is, r) e = r
+refused_not_done fan sig o (cell.Wide at, is, r) e = let f = not_done o statuses.Wide _ e r in cc f
+
+module _ (v : InputValue) (n : Options) (o : Outcome) (e : o.status ≡ statuses.Done) where
+  cones_not_done : after_cones n v o → ⊥
+  cones_not_done (inl h) = let f = not_done o statuses.TableWide _ e h.3 in cc f
+  cones_not_done (inr (p, inl h)) = let f = not_done o statuses.Full _ e h.4 in cc f
+  cones_not_done (inr (p, inr (q, h))) = refused_not_done h.0 h.3.0 o h.3.2 e
+
+  verdicts_not_done : after_verdicts n v o → ⊥
+  verdicts_not_done (inl h) = let f = not_done o statuses.Wide _ e h.2.2 in cc f
+  verdicts_not_done (inr (p, h)) = cones_not_done h
+
+  whole_not_done : after_whole n v o → ⊥
+  whole_not_done (inl h) = let f = sym (ap (λ (p : Outcome). p.status) h.1) ∙ e in cc f
+  whole_not_done (inr (p, inl h)) = stops_not_done v n.steps h.0 h.2.0 h.2.1 (not_done o h.2.0 _ e h.2.2)
+  whole_not_done (inr (p, inr (q, h))) = verdicts_not_done h
+
+  refusals_not_done : refuses n v o → ⊥
+  refusals_not_done (inl h) = stops_not_done v n.steps (whole_face v) h.0 h.1 (not_done o h.0 _ e h.2)
+  refusals_not_done (inr (p, h)) = whole_not_done h
+
+-- ---- the whole face is an a-face
+
+passes_monomial : (v : InputValue) (n : Options) → Passes (refuses n v) → Passes (has_monomial v)
+passes_monomial v n p o h = p o (inr (λ q stop. p q (inl stop), inl h))
+
+not_not : (v : InputValue) → Passes (has_monomial v) → (IsAFace v.generators (whole_face v) → ⊥) → ⊥
+not_not v p never = p _ (never, refl)
+
+free_or : (cert : FaceCert) → ((IsFree cert → ⊥) → ⊥) → IsFree cert
+free_or (Monomial power cofactors) h = absurd (h (λ f. f))
+free_or (Free members) h = tt
+
+whole_is : (v : InputValue) (vs : List FaceVerdict) → IsGrading v.degrees.k v.degrees.columns → AreVerdicts v vs → ((IsAFace v.generators (whole_face v) → ⊥) → ⊥) → IsAFace v.generators (whole_face v)
+whole_is v vs g are may_be =
+    let p = place_of (map (λ (f : FaceVerdict). f.mask) vs) (whole_face v) ((are.full (whole_face v)).1 (whole_full v g)) in
+    let f = map_from (λ (h : FaceVerdict). h.mask) vs p.0 (whole_face v) p.1 in
+    let verdict = all_at (IsVerdict v) vs p.0 f.0 are.each f.1 in
+    subst (IsAFace v.generators) f.2 (verdict.free.0 (free_or f.0.cert (λ h. may_be (λ a. h (verdict.free.1 (subst (IsAFace v.generators) (sym f.2) a))))))
+
+-- ---- what is written
+
+module _ (v : InputValue) (n : Options) (g : IsGrading v.degrees.k v.degrees.columns) where
+  text_valid : Passes (refuses n v) → (fan : Fan) (l : Listing) → IsListingOf v fan l → (vs : List FaceVerdict) → AreVerdicts v vs → (text : List ℕ) → text ≡ listing_text l ++ certificates_text vs → IsValidText v text
+  text_valid p fan l is vs are text e = record {
+    listing = l;
+    certs = vs;
+    is = e;
+    fits = verdicts_fit v vs g are;
+    valid = record { certificates = verdicts_accepted v vs are; listing = inl (record { whole = whole_is v vs g are (not_not v (passes_monomial v n p)); fan = fan; listing = is }) };
+  }
+
+  by_tail : Passes (refuses n v) → (fan : Fan) (l : Listing) → IsListingOf v fan l → (o : Outcome) → o ≡ written Certified l → (after text : List ℕ) → IsTail v o.tail after → text ≡ o.text ++ after → IsValidText v text
+  by_tail p fan l is o w after text tail e =
+      let t = subst (λ (q : Outcome). IsTail v q.tail after) w tail in
+      text_valid p fan l is t.0 t.1 text (e ∙ (λ i. (w i).text ++ t.2 i))
+
+pub fan_writes : (v : InputValue) (n : Options) (text : List ℕ) → IsGrading v.degrees.k v.degrees.columns → spelled v (fan_of n Certified v) statuses.Done text → IsValidText v text
+fan_writes v n text g (o, inl h, e, tail) = absurd (refusals_not_done v n o e h)
+fan_writes v n text g (o, inr (p, (fan, l, is, w)), e, (after, t, f)) = by_tail v n g p fan l is o w after text t f
