@@ -1,10 +1,9 @@
 -- The verdicts of an input's full faces are within the limits of a text of certificates.
-use Rattle.std.proofs.Common.{◌≡◌, ◌⊎◌, ℕ, zero, suc, ◌+◌, ◌-◌, ◌*◌, ◌^◌, ◌<◌, ◌≤◌, Bool, true, false, IsTrue, List, [], ◌∷◌, length, map, refl, sym, ap, ◌∙◌, subst, inl, inr, arith, All, get_or}
+use Rattle.std.proofs.Common.{◌≡◌, ℕ, zero, suc, ◌+◌, ◌^◌, ◌<◌, ◌≤◌, Bool, true, false, IsTrue, List, [], ◌∷◌, length, map, refl, sym, ap, ◌∙◌, subst, arith, All, get_or}
 use Rattle.std.specs.Prelude.{◌/◌, ◌%◌, ◌==◌, ◌||◌, AllPairs, Contains, slice_get, Some}
 use Rattle.std.specs.List.{AllByRecursion}
-use Rattle.std.proofs.lemmas.Bool.{eqb-true, ne_eqb}
+use Rattle.std.proofs.lemmas.Bool.{eqb-true}
 use Rattle.std.proofs.lemmas.List.{length-map}
-use Rattle.std.proofs.lemmas.Nat.{pow_pos}
 use Rattle.std.proofs.Math.Nat.{pow-le-pow_right}
 use Rattle.git_bits.specs.Bits.{has_bit}
 use Rattle.git_bits.proofs.Bits.{bit_of_part, no_high_bit}
@@ -25,7 +24,7 @@ use Rattle.git_facecert.specs.declared.certificate.FaceVerdict.{FaceVerdict}
 use Rattle.git_facecert.specs.Certificates.{IsCofactor, IsMember}
 use Rattle.git_saturate.specs.Verdicts.{IsCertificate}
 use Rattle.git_strictpoly.specs.Laws.{FitsMonomial, FitsPoly, FitsTerm}
-use Rattle.git_certtext.specs.Blocks.{Block, FitsBlock, FitsCert, FitsCerts, block_of, blocks_of, cert_of}
+use Rattle.git_certtext.specs.Blocks.{FitsBlock, FitsCert, FitsCerts, block_of, blocks_of, cert_of}
 use Rattle.git_asked.proofs.Places as places
 use Rattle.git_asked.proofs.Places.{contains_at, get_or_is, map_at, map_from, place_of, within}
 use Rattle.git_answers.specs.Verdicts.{AreVerdicts, IsFullFace, IsVerdict}
@@ -103,9 +102,9 @@ falling_few [] n falling below = omega arith
 falling_few (x ∷ xs) n falling below =
     let here = below 0 x refl in
     let rest = falling_few xs x (λ i j d low in_range. falling (suc i) (suc j) d (omega arith) (omega arith)) (λ i m e. (
-        let less = falling 0 (suc i) m (omega arith) (let l = within xs i m e in omega arith) in
-        let is = get_or_is xs i m m e in
-        omega (arith, less, is)))
+    let less = falling 0 (suc i) m (omega arith) (let l = within xs i m e in omega arith) in
+    let is = get_or_is xs i m m e in
+    omega (arith, less, is)))
     in omega (arith, here, rest)
 
 -- ---- the face without variables is not full
@@ -157,9 +156,9 @@ module _ (v : InputValue) (vs : List FaceVerdict) (g : IsGrading v.degrees.k v.d
   few : length (blocks_of vs) ≤ 65536
   few =
       let masks = falling_few (map (λ (h : FaceVerdict). h.mask) vs) (2 ^ length v.degrees.columns) are.descending (λ i m e. (
-          let f = map_from (λ (h : FaceVerdict). h.mask) vs i m e in
-          let below = (face_at i f.0 f.1).in_range in
-          subst (λ (n : ℕ). n < 2 ^ length v.degrees.columns) f.2 below))
+      let f = map_from (λ (h : FaceVerdict). h.mask) vs i m e in
+      let below = (face_at i f.0 f.1).in_range in
+      subst (λ (n : ℕ). n < 2 ^ length v.degrees.columns) f.2 below))
       in
       let two : 0 < 2 = omega arith in
       let p : 2 ^ length v.degrees.columns ≤ 2 ^ 16 = pow-le-pow_right two g.matrix.few_columns in

@@ -1,6 +1,5 @@
 -- What `fan` writes with certificates is valid beside its input.
-use Rattle.std.proofs.Common.{◌≡◌, ℕ, List, ◌++◌, map, refl, sym, ap, ◌∙◌, subst, inl, inr}
-use Rattle.std.specs.Prelude.{slice_get, Some}
+use Rattle.std.proofs.Common.{◌≡◌, ℕ, List, ◌++◌, ◌≤◌, length, true, map, refl, sym, ap, ◌∙◌, subst, inl, inr}
 use Rattle.git_base.specs.declared.status.Status.{Status}
 use Rattle.git_base.specs.declared.status.Status.TheVariants as statuses
 use Rattle.git_grading.specs.Gradings.{IsGrading}
@@ -16,14 +15,24 @@ use Rattle.git_listing.specs.ListingText.{listing_text}
 use Rattle.git_certtext.specs.CertificateText.{certificates_text}
 use Rattle.git_replies.specs.Cases.{Outcome, Passes, says}
 use Rattle.git_answers.specs.Ends.{spelled}
-use Rattle.git_answers.specs.Fan.{IsListingOf, IsRefused, Options, after_cones, after_verdicts, after_whole, fan_of, has_monomial, lists, refuses, whole_stops, writes, written}
+use Rattle.git_answers.specs.Fan.{IsListingOf, IsRefused, Options, after_cones, after_verdicts, after_whole, fan_of, has_monomial, refuses, written}
 use Rattle.git_answers.specs.Verdicts.{AreVerdicts, IsTail, IsVerdict, StopsWith, whole_face}
 use Rattle.git_answers.specs.declared.output.Output.TheVariants.{Certified}
 use Rattle.git_answers.proofs.OneFan.{whole_full}
 use Rattle.git_chamber.specs.declared.cell.Cell.TheVariants as cell
 use Rattle.git_asked.proofs.Places.{all_at, map_from, place_of}
 use Rattle.git_check_faces.proofs.Exact.{verdicts_accepted}
-use Rattle.git_check_replies.specs.Laws.{IsValidText}
+use Rattle.git_lines.specs.Lines.{is_ended}
+use Rattle.git_text.specs.Grammar.{IsInput}
+use Rattle.git_text.proofs.Matrices.{text_is_a_grading}
+use Rattle.git_listing.specs.Limits.{FitsListing}
+use Rattle.git_certtext.specs.Blocks.{blocks_of}
+use Rattle.git_check.specs.Checks.{IsInputListing, IsValid}
+use Rattle.git_checktext.specs.declared.limits.TheConstants.{TEXT_BYTES}
+use Rattle.git_check_replies.specs.CheckLines.{valid_text}
+use Rattle.git_check_replies.specs.CheckCases.{check_case}
+use Rattle.git_check_replies.proofs.OneText.{valid_is_answered}
+use Rattle.git_check_replies.specs.Laws.{IsWrittenText}
 use Rattle.git_check_replies.proofs.FitCerts.{verdicts_fit}
 
 -- ---- the refusals don't end as done
@@ -80,20 +89,30 @@ whole_is v vs g are may_be =
 -- ---- what is written
 
 module _ (v : InputValue) (n : Options) (g : IsGrading v.degrees.k v.degrees.columns) where
-  text_valid : Passes (refuses n v) → (fan : Fan) (l : Listing) → IsListingOf v fan l → (vs : List FaceVerdict) → AreVerdicts v vs → (text : List ℕ) → text ≡ listing_text l ++ certificates_text vs → IsValidText v text
-  text_valid p fan l is vs are text e = record {
+  text_written : Passes (refuses n v) → (fan : Fan) (l : Listing) → IsListingOf v fan l → (vs : List FaceVerdict) → AreVerdicts v vs → (text : List ℕ) → text ≡ listing_text l ++ certificates_text vs → IsWrittenText v text
+  text_written p fan l is vs are text e = record {
     listing = l;
     certs = vs;
     is = e;
+    listing_is = record { whole = whole_is v vs g are (not_not v (passes_monomial v n p)); fan = fan; listing = is };
+    accepted = verdicts_accepted v vs are;
     fits = verdicts_fit v vs g are;
-    valid = record { certificates = verdicts_accepted v vs are; listing = inl (record { whole = whole_is v vs g are (not_not v (passes_monomial v n p)); fan = fan; listing = is }) };
   }
 
-  by_tail : Passes (refuses n v) → (fan : Fan) (l : Listing) → IsListingOf v fan l → (o : Outcome) → o ≡ written Certified l → (after text : List ℕ) → IsTail v o.tail after → text ≡ o.text ++ after → IsValidText v text
+  by_tail : Passes (refuses n v) → (fan : Fan) (l : Listing) → IsListingOf v fan l → (o : Outcome) → o ≡ written Certified l → (after text : List ℕ) → IsTail v o.tail after → text ≡ o.text ++ after → IsWrittenText v text
   by_tail p fan l is o w after text tail e =
       let t = subst (λ (q : Outcome). IsTail v q.tail after) w tail in
-      text_valid p fan l is t.0 t.1 text (e ∙ (λ i. (w i).text ++ t.2 i))
+      text_written p fan l is t.0 t.1 text (e ∙ (λ i. (w i).text ++ t.2 i))
 
-pub fan_writes : (v : InputValue) (n : Options) (text : List ℕ) → IsGrading v.degrees.k v.degrees.columns → spelled v (fan_of n Certified v) statuses.Done text → IsValidText v text
+pub fan_writes : (v : InputValue) (n : Options) (text : List ℕ) → IsGrading v.degrees.k v.degrees.columns → spelled v (fan_of n Certified v) statuses.Done text → IsWrittenText v text
 fan_writes v n text g (o, inl h, e, tail) = absurd (refusals_not_done v n o e h)
 fan_writes v n text g (o, inr (p, (fan, l, is, w)), e, (after, t, f)) = by_tail v n g p fan l is o w after text t f
+
+pub written_valid : (front : List ℕ) (v : InputValue) (n : Options) (text : List ℕ) → IsInput front v → is_ended front ≡ true → spelled v (fan_of n Certified v) statuses.Done text
+    → ((l : Listing) → IsInputListing v l → FitsListing l) → length (front ++ text) ≤ TEXT_BYTES → check_case (front ++ text) (says statuses.Done valid_text)
+written_valid front v n text i e written fits few =
+    let w = fan_writes v n text (text_is_a_grading i.matrix_lines v.degrees i.matrix) written in
+    let l = w.listing in
+    let short : length (front ++ (listing_text l ++ certificates_text w.certs)) ≤ TEXT_BYTES = subst (λ (t : List ℕ). length (front ++ t) ≤ TEXT_BYTES) w.is few in
+    let valid : IsValid v l (blocks_of w.certs) = record { certificates = w.accepted; listing = inl w.listing_is } in
+    subst (λ (t : List ℕ). check_case (front ++ t) (says statuses.Done valid_text)) (sym w.is) (valid_is_answered front v l w.certs i e (fits l w.listing_is) w.fits valid short)

@@ -14,7 +14,8 @@ use Rattle.git_listing.specs.Listings.{Listing}
 use Rattle.git_listing.specs.ListingText.{listing_text}
 use Rattle.git_certtext.specs.Blocks.{FitsCerts, blocks_of}
 use Rattle.git_certtext.specs.CertificateText.{certificates_text}
-use Rattle.git_check.specs.Checks.{IsValid}
+use Rattle.git_check.specs.Checks.{IsInputListing, IsValid}
+use Rattle.git_check_faces.specs.Laws.{AreAccepted}
 use Rattle.git_checktext.specs.declared.limits.TheConstants.{TEXT_BYTES}
 use Rattle.git_checktext.specs.CheckText.{CheckText, IsCheckText, variables}
 use Rattle.git_replies.specs.Cases.{HasOne, says}
@@ -38,14 +39,20 @@ OnlyValidTextsAreValid = (bytes text : List ℕ) → check_case bytes (says Done
 
 -- ---- what `fan` writes
 
--- the text of a listing and of certificates within the limits, which are valid beside the input
-pub record IsValidText (v : InputValue) (text : List ℕ) : Type 0 where
+-- the text of the input's listing and of one accepted certificate for each full face, which are within the limits of their text
+pub record IsWrittenText (v : InputValue) (text : List ℕ) : Type 0 where
   pub listing : Listing
   pub certs : List FaceVerdict
   pub is : text ≡ listing_text listing ++ certificates_text certs
+  pub listing_is : IsInputListing v listing
+  pub accepted : AreAccepted v (blocks_of certs)
   pub fits : FitsCerts (variables v) (blocks_of certs)
-  pub valid : IsValid v listing (blocks_of certs)
 
 -- what `fan` writes with certificates where it is done is such a text, whatever its options
-abbrev pub FanWritesValidTexts : Type 0
-FanWritesValidTexts = (v : InputValue) (n : Options) (text : List ℕ) → IsGrading v.degrees.k v.degrees.columns → spelled v (fan_of n Certified v) Done text → IsValidText v text
+abbrev pub FanWritesSuchTexts : Type 0
+FanWritesSuchTexts = (v : InputValue) (n : Options) (text : List ℕ) → IsGrading v.degrees.k v.degrees.columns → spelled v (fan_of n Certified v) Done text → IsWrittenText v text
+
+-- behind its input it is answered `valid`, where the input's listing is within the limits of a listing's text
+abbrev pub WrittenTextsAreValid : Type 0
+WrittenTextsAreValid = (front : List ℕ) (v : InputValue) (n : Options) (text : List ℕ) → IsInput front v → is_ended front ≡ true → spelled v (fan_of n Certified v) Done text
+    → ((l : Listing) → IsInputListing v l → FitsListing l) → length (front ++ text) ≤ TEXT_BYTES → check_case (front ++ text) (says Done valid_text)

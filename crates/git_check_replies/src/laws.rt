@@ -1,5 +1,5 @@
 //! What holds of checking bytes. Each function is a law: its contract says it.
-ghost use Rattle.git_check_replies.specs.Laws.{FanWritesValidTexts, OneAnswer, OnlyValidTextsAreValid, ValidTextsAreValid};
+ghost use Rattle.git_check_replies.specs.Laws.{FanWritesSuchTexts, OneAnswer, OnlyValidTextsAreValid, ValidTextsAreValid, WrittenTextsAreValid};
 
 /// Bytes have one answer at most.
 pub fn one_answer()
@@ -16,7 +16,13 @@ pub fn only_valid_texts_are_valid()
     ensures { OnlyValidTextsAreValid }
 {}
 
-/// What `fan` writes with certificates, where it is done, is a listing and certificates that are valid beside its input.
-pub fn fan_writes_valid_texts()
-    ensures { FanWritesValidTexts }
+/// What `fan` writes with certificates, where it is done, is the input's listing with one accepted certificate for each
+/// full face, and the certificates are within the limits of their text.
+pub fn fan_writes_such_texts()
+    ensures { FanWritesSuchTexts }
+{}
+
+/// Behind the input it is answered `valid`, where the listing is within the limits of its text.
+pub fn written_texts_are_valid()
+    ensures { WrittenTextsAreValid }
 {}
