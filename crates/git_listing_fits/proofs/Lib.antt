@@ -1,0 +1,2 @@
+pub mod FewFacets
+pub mod Chambers
