@@ -1,9 +1,17 @@
 -- What `fan` writes with certificates is valid beside its input.
-use Rattle.std.proofs.Common.{◌≡◌, ℕ, List, ◌++◌, ◌≤◌, length, true, map, refl, sym, ap, ◌∙◌, subst, inl, inr}
+use Rattle.std.proofs.Common.{◌≡◌, ℕ, List, ◌++◌, ◌≤◌, length, true, map, refl, sym, ap, arith, ◌∙◌, subst, inl, inr}
 use Rattle.git_base.specs.declared.status.Status.{Status}
 use Rattle.git_base.specs.declared.status.Status.TheVariants as statuses
 use Rattle.git_grading.specs.Gradings.{IsGrading}
-use Rattle.git_orbit.specs.Orbits.{Fan}
+use Rattle.git_machine.specs.Signatures.{Signature}
+use Rattle.git_orbit.specs.Orbits.{Fan, IsFan}
+use Rattle.git_orbit.specs.Signatures.{IsLegal}
+use Rattle.git_input_cones.proofs.Openings.{HasOpening, wide_or_opens}
+use Rattle.git_check.proofs.Exact.{decide}
+use Rattle.git_check_faces.specs.Laws.{AreAccepted}
+use Rattle.git_listing_fits.proofs.Counts.{few_chambers}
+use Rattle.git_listing_fits.proofs.Fits.{listing_fits}
+use Rattle.git_replies.specs.Lines.{full_text, wide_face_text}
 use Rattle.git_ideals.specs.Faces.{IsAFace}
 use Rattle.git_input.specs.Inputs.{InputValue}
 use Rattle.git_facecert.specs.declared.certificate.FaceCert.{FaceCert}
@@ -15,10 +23,10 @@ use Rattle.git_listing.specs.ListingText.{listing_text}
 use Rattle.git_certtext.specs.CertificateText.{certificates_text}
 use Rattle.git_replies.specs.Cases.{Outcome, Passes, says}
 use Rattle.git_answers.specs.Ends.{spelled}
-use Rattle.git_answers.specs.Fan.{IsListingOf, IsRefused, Options, after_cones, after_verdicts, after_whole, fan_of, has_monomial, refuses, written}
+use Rattle.git_answers.specs.Fan.{IsListingOf, IsRefused, Options, after_cones, after_verdicts, after_whole, fan_of, has_monomial, other_stops, refuses, table_full, table_wide, whole_stops, wide_cone, written}
 use Rattle.git_answers.specs.Verdicts.{AreVerdicts, IsTail, IsVerdict, StopsWith, whole_face}
 use Rattle.git_answers.specs.declared.output.Output.TheVariants.{Certified}
-use Rattle.git_answers.proofs.OneFan.{whole_full}
+use Rattle.git_answers.proofs.OneFan.{opening_along, whole_full}
 use Rattle.git_chamber.specs.declared.cell.Cell.TheVariants as cell
 use Rattle.git_asked.proofs.Places.{all_at, map_from, place_of}
 use Rattle.git_check_faces.proofs.Exact.{verdicts_accepted}
@@ -27,7 +35,7 @@ use Rattle.git_text.specs.Grammar.{IsInput}
 use Rattle.git_text.proofs.Matrices.{text_is_a_grading}
 use Rattle.git_listing.specs.Limits.{FitsListing}
 use Rattle.git_certtext.specs.Blocks.{blocks_of}
-use Rattle.git_check.specs.Checks.{IsInputListing, IsValid}
+use Rattle.git_check.specs.Checks.{IsValid}
 use Rattle.git_checktext.specs.declared.limits.TheConstants.{TEXT_BYTES}
 use Rattle.git_check_replies.specs.CheckLines.{valid_text}
 use Rattle.git_check_replies.specs.CheckCases.{check_case}
@@ -69,8 +77,24 @@ module _ (v : InputValue) (n : Options) (o : Outcome) (e : o.status ≡ statuses
 
 -- ---- the whole face is an a-face
 
-passes_monomial : (v : InputValue) (n : Options) → Passes (refuses n v) → Passes (has_monomial v)
-passes_monomial v n p o h = p o (inr (λ q stop. p q (inl stop), inl h))
+module _ (v : InputValue) (n : Options) (p : Passes (refuses n v)) where
+  no_stop : Passes (whole_stops v n)
+  no_stop o h = p o (inl h)
+
+  passes_monomial : Passes (has_monomial v)
+  passes_monomial o h = p o (inr (no_stop, inl h))
+
+  no_other : Passes (other_stops v n)
+  no_other o h = p o (inr (no_stop, inr (passes_monomial, inl h)))
+
+  no_wide : Passes (wide_cone v)
+  no_wide o h = p o (inr (no_stop, inr (passes_monomial, inr (no_other, inl h))))
+
+  no_wide_table : Passes (table_wide v n)
+  no_wide_table o h = p o (inr (no_stop, inr (passes_monomial, inr (no_other, inr (no_wide, inl h)))))
+
+  no_full_table : Passes (table_full v n)
+  no_full_table o h = p o (inr (no_stop, inr (passes_monomial, inr (no_other, inr (no_wide, inr (no_wide_table, inl h))))))
 
 not_not : (v : InputValue) → Passes (has_monomial v) → (IsAFace v.generators (whole_face v) → ⊥) → ⊥
 not_not v p never = p _ (never, refl)
@@ -88,31 +112,51 @@ whole_is v vs g are may_be =
 
 -- ---- what is written
 
-module _ (v : InputValue) (n : Options) (g : IsGrading v.degrees.k v.degrees.columns) where
-  text_written : Passes (refuses n v) → (fan : Fan) (l : Listing) → IsListingOf v fan l → (vs : List FaceVerdict) → AreVerdicts v vs → (text : List ℕ) → text ≡ listing_text l ++ certificates_text vs → IsWrittenText v text
-  text_written p fan l is vs are text e = record {
+module _ (v : InputValue) (n : Options) (g : IsGrading v.degrees.k v.degrees.columns) (within : n.table ≤ 65536) (p : Passes (refuses n v)) (fan : Fan) (l : Listing) (is : IsListingOf v fan l) (vs : List FaceVerdict) (are : AreVerdicts v vs) where
+  whole : IsAFace v.generators (whole_face v)
+  whole = whole_is v vs g are (not_not v (passes_monomial v n p))
+
+  accepted : AreAccepted v (blocks_of vs)
+  accepted = verdicts_accepted v vs are
+
+  opened : HasOpening v
+  opened = elim (wide_or_opens v g (decide v (blocks_of vs) accepted) whole) [ inl w ↦ absurd (no_wide v n p (says statuses.Wide (wide_face_text w.0 w.1)) (w.0, w.2.0, (w.1, w.2.1, refl))) | inr o ↦ o.1 ]
+
+  good : IsFan fan.k fan.list × IsLegal fan is.first
+  good = opening_along v opened.fan fan opened.first is.first (λ (f : Fan) (s : Signature). IsFan f.k f.list × IsLegal f s) opened.opening is.opening (opened.is_fan, opened.legal)
+
+  few : length l.chambers ≤ n.table
+  few = few_chambers fan is.first (length v.degrees.columns) l is.listing n.table (λ more. no_full_table v n p (says statuses.Full (full_text n.table)) (fan, is.first, is.opening, more, refl))
+
+  fits : FitsListing l
+  fits = let count = few in listing_fits fan good.0 is.first good.1 (length v.degrees.columns) l is.listing (omega (arith, count, within)) g.matrix.some_columns g.matrix.few_columns
+
+  text_written : (text : List ℕ) → text ≡ listing_text l ++ certificates_text vs → IsWrittenText v text
+  text_written text e = record {
     listing = l;
     certs = vs;
     is = e;
-    listing_is = record { whole = whole_is v vs g are (not_not v (passes_monomial v n p)); fan = fan; listing = is };
-    accepted = verdicts_accepted v vs are;
+    listing_is = record { whole = whole; fan = fan; listing = is };
+    listing_fits = fits;
+    accepted = accepted;
     fits = verdicts_fit v vs g are;
   }
 
-  by_tail : Passes (refuses n v) → (fan : Fan) (l : Listing) → IsListingOf v fan l → (o : Outcome) → o ≡ written Certified l → (after text : List ℕ) → IsTail v o.tail after → text ≡ o.text ++ after → IsWrittenText v text
-  by_tail p fan l is o w after text tail e =
-      let t = subst (λ (q : Outcome). IsTail v q.tail after) w tail in
-      text_written p fan l is t.0 t.1 text (e ∙ (λ i. (w i).text ++ t.2 i))
+by_tail : (v : InputValue) (n : Options) → IsGrading v.degrees.k v.degrees.columns → n.table ≤ 65536 → Passes (refuses n v) → (fan : Fan) (l : Listing) → IsListingOf v fan l → (o : Outcome) → o ≡ written Certified l
+    → (after text : List ℕ) → IsTail v o.tail after → text ≡ o.text ++ after → IsWrittenText v text
+by_tail v n g within p fan l is o w after text tail e =
+    let t = subst (λ (q : Outcome). IsTail v q.tail after) w tail in
+    text_written v n g within p fan l is t.0 t.1 text (e ∙ (λ i. (w i).text ++ t.2 i))
 
-pub fan_writes : (v : InputValue) (n : Options) (text : List ℕ) → IsGrading v.degrees.k v.degrees.columns → spelled v (fan_of n Certified v) statuses.Done text → IsWrittenText v text
-fan_writes v n text g (o, inl h, e, tail) = absurd (refusals_not_done v n o e h)
-fan_writes v n text g (o, inr (p, (fan, l, is, w)), e, (after, t, f)) = by_tail v n g p fan l is o w after text t f
+pub fan_writes : (v : InputValue) (n : Options) (text : List ℕ) → IsGrading v.degrees.k v.degrees.columns → n.table ≤ 65536 → spelled v (fan_of n Certified v) statuses.Done text → IsWrittenText v text
+fan_writes v n text g within (o, inl h, e, tail) = absurd (refusals_not_done v n o e h)
+fan_writes v n text g within (o, inr (p, (fan, l, is, w)), e, (after, t, f)) = by_tail v n g within p fan l is o w after text t f
 
-pub written_valid : (front : List ℕ) (v : InputValue) (n : Options) (text : List ℕ) → IsInput front v → is_ended front ≡ true → spelled v (fan_of n Certified v) statuses.Done text
-    → ((l : Listing) → IsInputListing v l → FitsListing l) → length (front ++ text) ≤ TEXT_BYTES → check_case (front ++ text) (says statuses.Done valid_text)
-written_valid front v n text i e written fits few =
-    let w = fan_writes v n text (text_is_a_grading i.matrix_lines v.degrees i.matrix) written in
+pub written_valid : (front : List ℕ) (v : InputValue) (n : Options) (text : List ℕ) → IsInput front v → is_ended front ≡ true → n.table ≤ 65536 → spelled v (fan_of n Certified v) statuses.Done text
+    → length (front ++ text) ≤ TEXT_BYTES → check_case (front ++ text) (says statuses.Done valid_text)
+written_valid front v n text i e within writes_it few =
+    let w = fan_writes v n text (text_is_a_grading i.matrix_lines v.degrees i.matrix) within writes_it in
     let l = w.listing in
     let short : length (front ++ (listing_text l ++ certificates_text w.certs)) ≤ TEXT_BYTES = subst (λ (t : List ℕ). length (front ++ t) ≤ TEXT_BYTES) w.is few in
     let valid : IsValid v l (blocks_of w.certs) = record { certificates = w.accepted; listing = inl w.listing_is } in
-    subst (λ (t : List ℕ). check_case (front ++ t) (says statuses.Done valid_text)) (sym w.is) (valid_is_answered front v l w.certs i e (fits l w.listing_is) w.fits valid short)
+    subst (λ (t : List ℕ). check_case (front ++ t) (says statuses.Done valid_text)) (sym w.is) (valid_is_answered front v l w.certs i e w.listing_fits w.fits valid short)

@@ -10,6 +10,7 @@ use Rattle.git_text.specs.Grammar.{IsInput}
 use Rattle.git_lines.specs.Lines.{is_ended}
 use Rattle.git_facecert.specs.declared.certificate.FaceVerdict.{FaceVerdict}
 use Rattle.git_listing.specs.Limits.{FitsListing}
+use Rattle.git_listing.specs.declared.limits.TheConstants.{LISTED}
 use Rattle.git_listing.specs.Listings.{Listing}
 use Rattle.git_listing.specs.ListingText.{listing_text}
 use Rattle.git_certtext.specs.Blocks.{FitsCerts, blocks_of}
@@ -39,20 +40,21 @@ OnlyValidTextsAreValid = (bytes text : List ℕ) → check_case bytes (says Done
 
 -- ---- what `fan` writes
 
--- the text of the input's listing and of one accepted certificate for each full face, which are within the limits of their text
+-- the text of the input's listing and of one accepted certificate for each full face, both within the limits of their texts
 pub record IsWrittenText (v : InputValue) (text : List ℕ) : Type 0 where
   pub listing : Listing
   pub certs : List FaceVerdict
   pub is : text ≡ listing_text listing ++ certificates_text certs
   pub listing_is : IsInputListing v listing
+  pub listing_fits : FitsListing listing
   pub accepted : AreAccepted v (blocks_of certs)
   pub fits : FitsCerts (variables v) (blocks_of certs)
 
--- what `fan` writes with certificates where it is done is such a text, whatever its options
+-- what `fan` writes with certificates where it is done is such a text, for each table that the words may ask for and any number of steps
 abbrev pub FanWritesSuchTexts : Type 0
-FanWritesSuchTexts = (v : InputValue) (n : Options) (text : List ℕ) → IsGrading v.degrees.k v.degrees.columns → spelled v (fan_of n Certified v) Done text → IsWrittenText v text
+FanWritesSuchTexts = (v : InputValue) (n : Options) (text : List ℕ) → IsGrading v.degrees.k v.degrees.columns → n.table ≤ LISTED → spelled v (fan_of n Certified v) Done text → IsWrittenText v text
 
--- behind its input it is answered `valid`, where the input's listing is within the limits of a listing's text
+-- behind its input it is answered `valid`
 abbrev pub WrittenTextsAreValid : Type 0
-WrittenTextsAreValid = (front : List ℕ) (v : InputValue) (n : Options) (text : List ℕ) → IsInput front v → is_ended front ≡ true → spelled v (fan_of n Certified v) Done text
-    → ((l : Listing) → IsInputListing v l → FitsListing l) → length (front ++ text) ≤ TEXT_BYTES → check_case (front ++ text) (says Done valid_text)
+WrittenTextsAreValid = (front : List ℕ) (v : InputValue) (n : Options) (text : List ℕ) → IsInput front v → is_ended front ≡ true → n.table ≤ LISTED → spelled v (fan_of n Certified v) Done text
+    → length (front ++ text) ≤ TEXT_BYTES → check_case (front ++ text) (says Done valid_text)

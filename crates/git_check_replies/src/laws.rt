@@ -17,12 +17,12 @@ pub fn only_valid_texts_are_valid()
 {}
 
 /// What `fan` writes with certificates, where it is done, is the input's listing with one accepted certificate for each
-/// full face, and the certificates are within the limits of their text.
+/// full face, both within the limits of their texts.
 pub fn fan_writes_such_texts()
     ensures { FanWritesSuchTexts }
 {}
 
-/// Behind the input it is answered `valid`, where the listing is within the limits of its text.
+/// Behind the input it is answered `valid`.
 pub fn written_texts_are_valid()
     ensures { WrittenTextsAreValid }
 {}

@@ -1,35 +1,34 @@
 -- The facets of a chamber are walls of cones, and few.
-use Rattle.std.proofs.Common.{◌≡◌, ◌≢◌, ◌∙◌, ◌⊎◌, ◌∷◌, ◌+◌, ◌*◌, ◌^◌, ◌<◌, ◌≤◌, [], List, ap, arith, get_or, inl, inr, length, map, refl, subst, suc, sym, zero, ℕ, All}
+use Rattle.std.proofs.Common.{◌≡◌, ◌∙◌, ◌^◌, ◌<◌, ◌≤◌, [], List, arith, get_or, inl, inr, length, map, subst, sym, ℕ, All}
 use Rattle.std.proofs.Math.IntN.{pos, ℤ}
 use Rattle.std.proofs.Math.Nat.{pow-le-pow_right}
 use Rattle.std.proofs.lemmas.Int.{ints}
 use Rattle.std.proofs.lemmas.List.{get_or-map, length-map}
 use Rattle.std.proofs.lemmas.List.FromFn.{get_or-range_with_len, length-range_with_len}
 use Rattle.std.specs.List.{range_with_len}
-use Rattle.std.specs.Prelude.{◌<ℤ◌, ◌≤ℤ◌, Contains, AllPairs}
+use Rattle.std.specs.Prelude.{◌<ℤ◌, ◌≤ℤ◌, Contains}
 use Rattle.git_lemmas.specs.Members.{Member}
 use Rattle.git_lemmas.proofs.Members.{all_member, contains_member, member_contains}
-use Rattle.git_defs.specs.Vectors.{IsPrimitive, Precedes, Vector, dot, zero_vector}
-use Rattle.git_defs.specs.Cones.{AreFacets, Cut, Dual, InCone, IsEdge, IsExtreme, OnRay, SameSet}
+use Rattle.git_defs.specs.Vectors.{IsPrimitive, Precedes, Vector, dot}
+use Rattle.git_defs.specs.Cones.{AreFacets, Cut, Dual, InCone, IsExtreme, SameSet}
 use Rattle.git_defs.specs.Faces.{face}
 use Rattle.git_defs.proofs.Closed.{cone_closed, cone_has}
 use Rattle.git_defs.proofs.Lengths.{OfLength, all_of_length}
 use Rattle.git_defs.proofs.Linear.{cone_beside, dot-comm}
-use Rattle.git_geometry.specs.Generators.{RayOf, Separated}
 use Rattle.git_geometry.proofs.Cuts.{cut_of}
 use Rattle.git_geometry.proofs.Farkas.{farkas}
 use Rattle.git_geometry.proofs.Rays.{dual_along, dual_cut, edge_along, extreme_along, primitive_of_ray, ray_of_generator, same_back}
-use Rattle.git_machine.specs.Signatures.{Has, Signature}
+use Rattle.git_machine.specs.Signatures.{Signature}
 use Rattle.git_machine.specs.Reach.{IsOnce}
 use Rattle.git_machine.proofs.Once.{once_fits}
 use Rattle.git_minors.proofs.Parts.{face_of_length}
 use Rattle.git_stages.proofs.Fronts.{any_default}
 use Rattle.git_stages.proofs.Listed.{irreflexive}
 use Rattle.git_orbit.specs.Orbits.{Fan, IsFan}
-use Rattle.git_orbit.specs.Signatures.{InChamber, facets_at}
+use Rattle.git_orbit.specs.Signatures.{InChamber}
 use Rattle.git_orbit.proofs.Fans.{read_cone}
 use Rattle.git_chamber.specs.Chambers.{AreWalls, IsFullSet}
-use Rattle.git_chamber.proofs.Facets.{walls_cut, walls_have, walls_nonzero, walls_point}
+use Rattle.git_chamber.proofs.Facets.{walls_cut, walls_have, walls_point}
 use Rattle.git_chamber.proofs.Gatherings.{walls_exist}
 use Rattle.git_listing_fits.proofs.FewFacets.{face_within, mask_below, mask_of, reach, reach_bounds, reach_some, same_normal, same_zero}
 

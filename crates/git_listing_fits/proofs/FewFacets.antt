@@ -1,13 +1,11 @@
 -- A chamber has at most as many facets as there are sets of columns: a facet is told by the columns on it.
-use Rattle.std.proofs.Common.{◌≡◌, ◌≢◌, ◌∙◌, ◌⊎◌, ◌∷◌, ◌+◌, ◌*◌, ◌-◌, ◌^◌, ◌<◌, ◌≤◌, [], Bool, true, false, cond, List, ap, arith, drop, get_or, inl, inr, length, map, refl, subst, suc, sym, zero, ℕ, All}
+use Rattle.std.proofs.Common.{◌≡◌, ◌∙◌, ◌∷◌, ◌+◌, ◌*◌, ◌-◌, ◌^◌, ◌<◌, ◌≤◌, [], Bool, true, false, cond, List, ap, arith, drop, get_or, inl, inr, length, refl, subst, suc, sym, zero, ℕ}
 use Rattle.std.proofs.Math.IntN.{◌+ℤ◌, ◌*ℤ◌, negsuc, pos, pos-*ℤ-pos, ℤ}
 use Rattle.std.proofs.Math.Nat.{le-mul_of_pos_right, mul-le-mul_right, one-le-mul, mul_assoc, mul-add, pow-suc}
 use Rattle.std.proofs.lemmas.Int.{ints, unsigned_abs-mul}
 use Rattle.std.proofs.lemmas.Bool.{cases_lt}
-use Rattle.std.proofs.lemmas.List.{length-map}
-use Rattle.std.specs.Prelude.{◌<ℤ◌, ◌≤ℤ◌, ◌==◌, ◌/◌, Contains, AllPairs, unsigned_abs}
+use Rattle.std.specs.Prelude.{◌<ℤ◌, ◌≤ℤ◌, ◌/◌, unsigned_abs}
 use Rattle.git_lemmas.specs.Members.{Member}
-use Rattle.git_lemmas.proofs.Members.{contains_member, member_contains}
 use Rattle.git_bits.specs.Bits.{has_bit}
 use Rattle.git_defs.specs.Vectors.{IsPrimitive, Vector, dot, plus, scale, zero_vector}
 use Rattle.git_defs.specs.Cones.{Cut, IsEdge, OnRay}
@@ -61,7 +59,7 @@ more_than t M N A B m a b e = elim (cases_lt (M * N) t) [
 ]
 
 module _ (k : ℕ) (F : List Vector) (n m w : Vector) (edge : IsEdge k (Cut k F) n) (lm : length m ≡ k) (zeros : (q : Vector) → Member q F → dot q n ≡ pos 0 → dot q m ≡ pos 0) (N : ℕ)
-  (bound : (q : Vector) → Member q F → unsigned_abs (dot q m) ≤ N) (some : 0 < N) where
+    (bound : (q : Vector) → Member q F → unsigned_abs (dot q m) ≤ N) (some : 0 < N) where
   ln : length n ≡ k
   ln = edge.member.entries
 

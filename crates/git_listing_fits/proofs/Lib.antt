@@ -1,2 +1,4 @@
 pub mod FewFacets
 pub mod Chambers
+pub mod Fits
+pub mod Counts
