@@ -88,7 +88,7 @@ pub one_more_bunch : (R : Chamber → BunchValue → Type 0) (cs : List ListedCh
     → AllZip R (map chamber_of (take i cs)) (map bunch_of bs) → R (chamber_of c) (bunch_of b) → AllZip R (map chamber_of (take (i + 1) cs)) (map bunch_of (bs ++ b ∷ []))
 one_more_bunch R cs bs i c b low at before here =
     let front : map chamber_of (take (i + 1) cs) ≡ map chamber_of (take i cs) ++ chamber_of c ∷ [] =
-        ap (map chamber_of) (take_more cs i c low) ∙ map-append chamber_of (take i cs) (get_or cs i c ∷ []) ∙ ap (λ (d : ListedChamber). map chamber_of (take i cs) ++ chamber_of d ∷ []) (sym at) in
+    ap (map chamber_of) (take_more cs i c low) ∙ map-append chamber_of (take i cs) (get_or cs i c ∷ []) ∙ ap (λ (d : ListedChamber). map chamber_of (take i cs) ++ chamber_of d ∷ []) (sym at) in
     subst (λ (l : List Chamber). AllZip R l (map bunch_of (bs ++ b ∷ []))) (sym front)
     (subst (AllZip R (map chamber_of (take i cs) ++ chamber_of c ∷ [])) (sym (map-append bunch_of bs (b ∷ []))) (zip_push R (map chamber_of (take i cs)) (map bunch_of bs) (chamber_of c) (bunch_of b) before here))
 
