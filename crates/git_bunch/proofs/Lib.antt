@@ -6,3 +6,7 @@ mod Grouping
 mod Naming
 mod Sides
 mod Within
+mod Numbered
+mod Minimals
+mod Once
+mod Exist
