@@ -1,7 +1,7 @@
 -- The chambers of a listing have bunches.
 use Rattle.std.proofs.Common.{◌≡◌, ◌<◌, ◌∷◌, [], Bool, List, inl, inr, refl, subst, sym, ℕ}
 use Rattle.std.specs.List.{AllZip}
-use Rattle.std.specs.Prelude.{Contains}
+use Rattle.std.specs.Prelude.{AllPairs, Contains}
 use Rattle.git_defs.proofs.Lengths.{OfLength, all_of_length, more_of_length, none_of_length, of_length_all}
 use Rattle.git_defs.specs.Vectors.{Vector, vector_sum}
 use Rattle.git_cone_faces.proofs.Walls.{on_wall_of_length}
@@ -52,13 +52,13 @@ module _ (P : ℕ → Type 0) (decide : (m : ℕ) → Decided (P m)) where
         )
       ]
 
-  falling : (F : Family) → IsFamily F → ((m : ℕ) → P m → Contains F.free m) → (list : List ℕ) × AreDescending P list
-  falling F is free =
-      let k = kept F.free (ascends_of_pairs (λ (m n : ℕ). n < m) F.free is.faces.descending) in (
+  pub falling_within : (xs : List ℕ) → AllPairs (λ (m n : ℕ). n < m) xs → ((m : ℕ) → P m → Contains xs m) → (list : List ℕ) × AreDescending P list
+  falling_within xs falls within =
+      let k = kept xs (ascends_of_pairs (λ (m n : ℕ). n < m) xs falls) in (
         k.0,
         record {
           descending = pairs_of_ascends (λ (m n : ℕ). n < m) k.0 k.1.falls;
-          each = λ m. (λ c. (k.1.to m (contains_member m k.0 c)).1, λ p. member_contains m k.0 (k.1.back m (contains_member m F.free (free m p)) p));
+          each = λ m. (λ c. (k.1.to m (contains_member m k.0 c)).1, λ p. member_contains m k.0 (k.1.back m (contains_member m xs (within m p)) p));
         },
       )
 
@@ -79,13 +79,13 @@ module _ (F : Family) (g : IsGrading F.fan.k F.columns) (is : IsFamily F) where
   ]
 
   lost_list : (s t : Signature) → (list : List ℕ) × AreDescending (Lost F s t) list
-  lost_list s t = falling (Lost F s t) (lost_decided s t) F is (λ m l. l.before.free)
+  lost_list s t = falling_within (Lost F s t) (lost_decided s t) F.free is.faces.descending (λ m l. l.before.free)
 
   wall_list : (s t middle : Signature) → (list : List ℕ) × AreDescending (Wall F s t middle) list
-  wall_list s t middle = falling (Wall F s t middle) (wall_decided s t middle) F is (λ m w. w.on.free)
+  wall_list s t middle = falling_within (Wall F s t middle) (wall_decided s t middle) F.free is.faces.descending (λ m w. w.on.free)
 
   minimal_list : (s : Signature) → (list : List ℕ) × AreDescending (Minimal F s) list
-  minimal_list s = falling (Minimal F s) (minimal_decided F g is s) F is (λ m p. p.stable.free)
+  minimal_list s = falling_within (Minimal F s) (minimal_decided F g is s) F.free is.faces.descending (λ m p. p.stable.free)
 
   module _ (cs : List Chamber) (listing : IsCrossedListing F.fan cs) where
     chamber_long : (c : Chamber) → IsSizedChamber F.fan.k c → OfLength F.fan.k c.rays

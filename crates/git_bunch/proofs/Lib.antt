@@ -6,7 +6,7 @@ mod Grouping
 mod Naming
 mod Sides
 mod Within
-mod Numbered
+pub mod Numbered
 mod Minimals
-mod Once
-mod Exist
+pub mod Once
+pub mod Exist

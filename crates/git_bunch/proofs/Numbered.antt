@@ -110,7 +110,7 @@ equal_or_not m n = elim (cases_lt m n) [
   | inr h ↦ elim (cases_lt n m) [ inl l ↦ inr (λ e. omega (arith, l, e)) | inr l ↦ inl (omega (arith, h, l)) ]
 ]
 
-among_or_not : (xs : List ℕ) (m : ℕ) → Decided (Contains xs m)
+pub among_or_not : (xs : List ℕ) (m : ℕ) → Decided (Contains xs m)
 among_or_not xs m = elim (some_or_none (λ x. x ≡ m) (λ x. equal_or_not x m) xs) [
   | inl s ↦ inl (subst (Contains xs) s.2 (member_contains s.0 xs s.1))
   | inr none ↦ inr (λ c. none m (contains_member m xs c) refl)

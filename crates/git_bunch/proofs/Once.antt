@@ -13,7 +13,7 @@ use Rattle.git_bunch.specs.Bunches.{AreBunches, AreSteps, BunchValue, IsBunch, I
 use Rattle.git_bunch.specs.Stable.{AreDescending, Family, Gained, Lost, Minimal, Wall}
 
 -- a falling list is known by its members
-one_falling : (P : ℕ → Type 0) (a b : List ℕ) → AreDescending P a → AreDescending P b → a ≡ b
+pub one_falling : (P : ℕ → Type 0) (a b : List ℕ) → AreDescending P a → AreDescending P b → a ≡ b
 one_falling P a b p q = once (λ (m n : ℕ). n < m) (λ x l. omega (arith, l)) (λ x y z l h. omega (arith, l, h)) a b
     (ascends_of_pairs (λ (m n : ℕ). n < m) a p.descending) (ascends_of_pairs (λ (m n : ℕ). n < m) b q.descending)
     (λ x m. contains_member x b ((q.each x).1 ((p.each x).0 (member_contains x a m))))
