@@ -1,6 +1,23 @@
 """Whether the chambers of a listing form a fan."""
 
+from shared.command import Refusal, read_text
+from shared.cones import read_cones
 from shared.linear import dot, negative
+
+
+def fan_of(listing, file):
+    """All cones of the chambers from a file that `gitfan cones` wrote, or None where no file is named. Refuses chambers
+    that form no fan: by the file's verdict, which is proved, or else by what is looked at here."""
+    if file is None:
+        reason = why_no_fan(listing)
+        if reason:
+            raise Refusal(f'the chambers are no fan: {reason}')
+        return None
+    cones = read_cones(read_text(file), listing)
+    if cones.apart:
+        first, second = cones.apart
+        raise Refusal(f'the chambers are no fan: chambers {first} and {second} meet in no face of both')
+    return cones
 
 
 def why_no_fan(listing):

@@ -167,14 +167,15 @@ def read_facet(lines, number, rows, count, version):
 
 
 class Lines:
-    """The lines of a listing, taken one by one."""
+    """The lines of a listing, or of another text that is named, taken one by one."""
 
-    def __init__(self, text):
+    def __init__(self, text, name='the listing'):
         self.lines = text.split('\n')
+        self.name = name
         self.number = 0
 
     def refuse(self, reason):
-        raise Refusal(f'line {self.number} of the listing: {reason}')
+        raise Refusal(f'line {self.number} of {self.name}: {reason}')
 
     def word(self):
         """The first word of the next line, or an empty one."""

@@ -3,6 +3,7 @@ use Rattle.std.proofs.Common.{◌≡◌, ◌≢◌, ℕ, suc, ◌+◌, ◌-◌, 
 use Rattle.std.specs.Prelude.{◌==◌, slice_index}
 use Rattle.std.specs.List.{concat, count_by}
 use Rattle.std.proofs.Math.Seq.{take-append_seam}
+use Rattle.std.proofs.lemmas.Bool.{eqb-true}
 use Rattle.std.proofs.lemmas.Bool.Decides.{nat_tests}
 use Rattle.std.proofs.lemmas.List.Sums.{sum_by-cons}
 use Rattle.git_lines.specs.Lines.{is_ended, lines_of, onto_first}
@@ -104,3 +105,12 @@ ended_count bs some e = let all = lines_by_last bs 0 some (one_of_test (slice_in
 -- the last byte is none
 pub open_count : (bs : List ℕ) → 0 < length bs → slice_index bs (length bs - 1) ≢ 10 → length (lines_of bs) ≡ feeds bs + 1
 open_count bs some e = lines_by_last bs 1 some (none_of_test (slice_index bs (length bs - 1)) e)
+
+-- no bytes, no lines
+pub no_lines : (bs : List ℕ) → length bs == 0 ≡ true → length (lines_of bs) ≡ feeds bs
+no_lines [] e = refl
+no_lines (b ∷ bs) e = absurd (omega (arith, eqb-true (suc (length bs)) 0 e))
+
+pub some_bytes : (bs : List ℕ) → length bs == 0 ≡ false → 0 < length bs
+some_bytes [] e = absurd (cc e)
+some_bytes (b ∷ bs) e = omega arith

@@ -2,9 +2,14 @@
 //! one, and bytes that are no such text have one answer, the first fault with its line in the whole text.
 #![tactic(auto)]
 
+mod counting;
 pub mod laws;
 mod limits;
+mod reading;
 mod refusals;
+mod text;
 
 pub use limits::TEXT_BYTES;
+pub use reading::{TextReading, read, read_check_text};
 pub use refusals::{certs_refusal, listing_refusal};
+pub use text::CheckText;

@@ -1,0 +1,15 @@
+{"_ns":{"polymake":["https://polymake.org","4.6"]},
+"_type":"fan::PolyhedralFan<Rational>",
+"FAN_AMBIENT_DIM":2,
+"RAYS":[
+["0","1"],
+["1","0"],
+["1","1"]
+],
+"LINEALITY_SPACE":[{"cols":2}],
+"F_VECTOR":["3","2"],
+"MAXIMAL_CONES":[
+[0,2],
+[1,2],
+{"cols":3}
+]}
