@@ -1,6 +1,5 @@
 -- The listing of a fan is crossed: its chambers are small, and its facets are said to be boundary or inner as they are.
-use Rattle.std.proofs.Common.{◌≡◌, ◌≤◌, ◌∷◌, [], All, List, inl, inr, length, map, ℕ}
-use Rattle.std.specs.Prelude.{Contains}
+use Rattle.std.proofs.Common.{◌≤◌, ◌∷◌, [], List, inl, inr, length, map, ℕ}
 use Rattle.git_lemmas.specs.Members.{Member}
 use Rattle.git_lemmas.proofs.Members.{all_member, member_all, member_contains}
 use Rattle.git_defs.proofs.Lengths.{of_length_all}

@@ -1,7 +1,6 @@
--- The full a-faces of an input and its fan are a family, and the first signature is legal.
-use Rattle.std.proofs.Common.{◌≡◌, ◌⊎◌, ◌<◌, ◌^◌, List, inl, inr, length, map, refl, subst, sym, ℕ}
+-- The full a-faces of an input and its fan are a family.
+use Rattle.std.proofs.Common.{◌≡◌, ◌<◌, ◌^◌, List, length, refl, subst, sym, ℕ}
 use Rattle.std.specs.Prelude.{Contains}
-use Rattle.git_base.specs.declared.status.Status.TheVariants as status
 use Rattle.git_lemmas.proofs.Members.{all_member, contains_member}
 use Rattle.git_defs.specs.Faces.{IsFullDimensional}
 use Rattle.git_grading.specs.Gradings.{IsGrading}
@@ -12,42 +11,26 @@ use Rattle.git_orbit.specs.Signatures.{IsLegal, IsSignature}
 use Rattle.git_chamber.proofs.Firsts.{first_legal}
 use Rattle.git_chamber.specs.Chambers.{first_germ}
 use Rattle.git_chamber.specs.Views.{IsGraph}
-use Rattle.git_covering.proofs.Listed.{from_map}
 use Rattle.git_ideals.specs.Faces.{IsAFace}
 use Rattle.git_input.specs.Inputs.{InputValue}
-use Rattle.git_facecert.specs.declared.certificate.FaceCert.{FaceCert}
-use Rattle.git_facecert.specs.declared.certificate.FaceCert.TheVariants.{Monomial, Free}
-use Rattle.git_facecert.specs.declared.certificate.FaceVerdict.{FaceVerdict}
-use Rattle.git_saturate.specs.Verdicts.{IsFree}
-use Rattle.git_replies.specs.Cases.{Passes, block}
-use Rattle.git_replies.specs.Lines.{monomial_text}
-use Rattle.git_answers.proofs.OneFan.{whole_full}
-use Rattle.git_answers.specs.Fan.{IsFanOf, IsOpening, Options, after_whole, has_monomial, refuses}
-use Rattle.git_answers.specs.Verdicts.{AreVerdicts, IsVerdict, whole_face}
-use Rattle.git_input_cones.proofs.Masks.{AreMasks, turned, whole_is_among}
+use Rattle.git_answers.specs.Fan.{IsFanOf, IsOpening}
+use Rattle.git_input_cones.proofs.Masks.{AreMasks, turned}
 use Rattle.git_bunch.specs.Stable.{AreDescending, IsFamily, family}
 use Rattle.git_bunch_replies.specs.BunchCases.{IsFullAFace}
-
--- ---- the whole face of an input that isn't refused
-free_or_not : (c : FaceCert) → IsFree c ⊎ (IsFree c → ⊥)
-free_or_not (Monomial power cofactors) = inr (λ h. h)
-free_or_not (Free members) = inl tt
-
-no_monomial : (v : InputValue) (n : Options) → Passes (refuses n v) → Passes (has_monomial v)
-no_monomial v n passes o x =
-    let later : Passes (after_whole n v) = (λ p y. passes p (inr ((λ q z. passes q (inl z)), y))) in
-    later o (inl x)
-
-pub whole_is_free : (v : InputValue) (n : Options) (faces : List FaceVerdict) → IsGrading v.degrees.k v.degrees.columns → AreVerdicts v faces → Passes (refuses n v) → IsAFace v.generators (whole_face v)
-whole_is_free v n faces g are passes =
-    let mask = λ (f : FaceVerdict). f.mask in
-    let at = from_map mask faces (whole_face v) (contains_member (whole_face v) (map mask faces) ((are.full (whole_face v)).1 (whole_full v g))) in
-    let verdict = all_member (IsVerdict v) at.one faces are.each at.member in
-    elim (free_or_not at.one.cert) [
-      | inl free ↦ subst (IsAFace v.generators) at.is (verdict.free.0 free)
-      | inr out ↦ absurd (no_monomial v n passes (record { status = status.Monomial; text = monomial_text; tail = block (whole_face v) })
-          ((λ a. out (verdict.free.1 (subst (IsAFace v.generators) (sym at.is) a))), refl))
-    ]
+use Rattle.git_defs.specs.Vectors.{Vector}
+use Rattle.git_facecert.specs.declared.certificate.FaceVerdict.{FaceVerdict}
+use Rattle.git_listing.specs.Listings.{Listing}
+use Rattle.git_chamber.specs.Views.{Graph}
+use Rattle.git_replies.specs.Cases.{Outcome}
+use Rattle.git_answers.specs.Fan.{Options}
+use Rattle.git_input_cones.specs.InputCones.{free_masks_of}
+use Rattle.git_input_cones.proofs.Accepted.{free_are_masks}
+use Rattle.git_listed_cones.specs.ListedCones.{HasCones}
+use Rattle.git_listed_cones.proofs.Cones.{first_is_legal, is_fan}
+use Rattle.git_bunch.specs.Stable.{Family}
+use Rattle.git_bunch.specs.Bunches.{IsCrossedListing}
+use Rattle.git_bunch_replies.specs.BunchCases.{bunch_case, tells}
+use Rattle.git_bunch_replies.proofs.Crossed.{crossed_listing}
 
 -- ---- the family
 module _ (v : InputValue) (fan : Fan) (free : List ℕ) (is : IsFanOf v fan) (are : AreMasks v free) where
@@ -77,10 +60,22 @@ module _ (v : InputValue) (fan : Fan) (free : List ℕ) (is : IsFanOf v fan) (ar
     pub fan_is : IsFan fan.k fan.list
     fan_is = record { columns = v.degrees.columns; grading = grading; masks = free; faces = family_is.faces; cones = family_is.cones }
 
-    pub graph_is : IsAFace v.generators (whole_face v) → IsGraph (record { fan = fan; columns = v.degrees.columns })
-    graph_is a = record { grading = grading; cones = record { masks = free; faces = family_is.faces; whole = whole_is_among v free are g a; cones = family_is.cones } }
-
 -- ---- the first signature
 pub legal_first : (v : InputValue) (fan : Fan) (first : Signature) → IsGraph (record { fan = fan; columns = v.degrees.columns }) → IsOpening v fan first → IsLegal fan first
 legal_first v fan first graph opening = first_legal (record { fan = fan; columns = v.degrees.columns }) graph first
     (subst (λ (n : ℕ). IsSignature fan (first_germ n v.degrees.columns) first) (sym opening.is_fan.k) opening.is_first)
+
+-- ---- an input whose chambers are listed
+module _ (v : InputValue) (n : Options) (graded : IsGrading v.degrees.k v.degrees.columns) (g : Graph) (faces : List FaceVerdict) (l : Listing) (h : HasCones v n g faces l) where
+  masks_are : AreMasks v (free_masks_of faces)
+  masks_are = free_are_masks v faces h.listed.verdicts (free_masks_of faces) refl
+
+  pub crossed : IsCrossedListing g.fan l.chambers
+  crossed = crossed_listing g.fan (is_fan v n graded g faces l h.listed) h.listed.listing.first (length v.degrees.columns) l (first_is_legal v n graded g faces l h.listed) h.listed.listing.listing
+
+  pub told : (fan : Fan) (columns : List Vector) (free : List ℕ) (o : Outcome) → fan ≡ g.fan → columns ≡ v.degrees.columns → free ≡ free_masks_of faces → bunch_case (family fan columns free) l o → tells v g.fan l o
+  told fan columns free o same_fan same_columns same t = (
+    free_masks_of faces,
+    falls v g.fan (free_masks_of faces) h.listed.graph.fan masks_are,
+    subst (λ (F : Family). bunch_case F l o) (λ i. family (same_fan i) (same_columns i) (same i)) t,
+  )

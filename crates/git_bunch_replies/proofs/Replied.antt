@@ -1,18 +1,17 @@
 -- What is answered by bunches is one thing.
-use Rattle.std.proofs.Common.{◌≡◌, ◌∙◌, ◌<◌, ◌^◌, List, ap, inl, inr, length, refl, subst, sym, ℕ}
-use Rattle.std.specs.Prelude.{Contains}
+use Rattle.std.proofs.Common.{◌∙◌, ◌<◌, ◌^◌, List, ap, inl, inr, length, refl, subst, sym, ℕ}
 use Rattle.git_base.specs.declared.status.Status.TheVariants.{Done}
 use Rattle.git_lemmas.proofs.Members.{member_all, member_contains}
 use Rattle.git_defs.specs.Faces.{IsFullDimensional}
 use Rattle.git_grading.specs.Gradings.{IsGrading}
 use Rattle.git_orbit.proofs.Settled.{Decided}
-use Rattle.git_orbit.specs.Orbits.{Fan, IsFan}
+use Rattle.git_orbit.specs.Orbits.{Fan}
 use Rattle.git_chamber.specs.Views.{IsGraph}
 use Rattle.git_listing.specs.Listings.{Listing}
 use Rattle.git_faces.proofs.FullLists.{some as full_list}
 use Rattle.git_faces.specs.FullFaces.{AreFullFaces}
 use Rattle.git_input.specs.Inputs.{InputValue}
-use Rattle.git_replies.specs.Cases.{HasOne, HasSome, Outcome, says}
+use Rattle.git_replies.specs.Cases.{HasOne, HasSome, says}
 use Rattle.git_answers.specs.Fan.{IsListingOf}
 use Rattle.git_input_cones.proofs.Masks.{AreMasks}
 use Rattle.git_bunch.specs.BunchText.{bunches_text}

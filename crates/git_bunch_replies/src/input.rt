@@ -3,18 +3,19 @@ ghost use Rattle.std.specs.Prelude.{◌≤◌, IfOk};
 ghost use Rattle.git_listing.specs.Views.{listing_of};
 ghost use Rattle.git_replies.specs.Cases.{says};
 ghost use Rattle.git_answers.specs.Ends.{spelled};
-ghost use Rattle.git_answers.specs.Fan.{Options, options, refuses};
-ghost use Rattle.git_fan.specs.Fans.{HasListing};
+ghost use Rattle.git_answers.specs.Fan.{Options, options};
+ghost use Rattle.git_listed_cones.specs.ListedCones.{HasCones};
 ghost use Rattle.git_bunch_replies.specs.BunchCases.{bunches_of, tells};
 
 use crate::reply::bunch_reply;
 use git_base::NoMemory;
 use git_chamber::FanGraph;
 use git_facecert::FaceVerdict;
-use git_fan::{Listed, list_alone};
+use git_fan::Listed;
 use git_input::Input;
 use git_input_cones::{free_masks, whole_mask};
 use git_limits::STEPS;
+use git_listed_cones::list_with_cones;
 use git_listing::Listing;
 use git_replies::Reply;
 use std::alloc::Global;
@@ -33,7 +34,7 @@ pub fn chambers_reply(
     faces: &[FaceVerdict],
     listing: &Listing,
 ) -> Result<Reply, NoMemory>
-    requires { (n : Options) × HasListing input.now (refuses n input.now) graph.now faces.now (listing_of listing.now) }
+    requires { (n : Options) × HasCones input.now n graph.now faces.now (listing_of listing.now) }
     ensures { IfOk result (λ a. tells input.now graph.now.fan (listing_of listing.now) (says a.status a.text.items)) }
 {
     let _whole = whole_mask(input);
@@ -59,7 +60,7 @@ pub fn bunch_answer<R: Threads + Sync>(
     requires steps { steps ≤ STEPS }
     ensures { IfOk result (λ a. spelled input.now (bunches_of (options table steps) input.now) a.status a.text.items) }
 {
-    match list_alone(rt, alloc, input, table, steps)? {
+    match list_with_cones(rt, alloc, input, table, steps)? {
         Listed::Refused(reply) => Ok(reply),
         Listed::Chambers {
             graph,
