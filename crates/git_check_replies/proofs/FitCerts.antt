@@ -25,6 +25,7 @@ use Rattle.git_facecert.specs.Certificates.{IsCofactor, IsMember}
 use Rattle.git_saturate.specs.Verdicts.{IsCertificate}
 use Rattle.git_strictpoly.specs.Laws.{FitsMonomial, FitsPoly, FitsTerm}
 use Rattle.git_certtext.specs.Blocks.{FitsBlock, FitsCert, FitsCerts, block_of, blocks_of, cert_of}
+use Rattle.git_listing_fits.proofs.Fits.{by_places}
 use Rattle.git_asked.proofs.Places as places
 use Rattle.git_asked.proofs.Places.{contains_at, get_or_is, map_at, map_from, place_of, within}
 use Rattle.git_answers.specs.Verdicts.{AreVerdicts, IsFullFace, IsVerdict}
@@ -91,10 +92,6 @@ poly_fits r mask p none within small =
     terms_fit r mask p.terms none (every_from_all (λ a. IsTrue (in_face mask a)) p.terms within) (every_degree 33554432 p.terms small)
 
 -- ---- lists
-
-by_places : {X : Type 0} (P : X → Type 0) (xs : List X) → ((i : ℕ) (x : X) → slice_get xs i ≡ Some x → P x) → AllByRecursion P xs
-by_places P [] h = tt
-by_places P (x ∷ xs) h = (h 0 x refl, by_places P xs (λ i y e. h (suc i) y e))
 
 -- numbers that fall are fewer than what is above them
 pub falling_few : (xs : List ℕ) (n : ℕ) → AllPairs (λ (a b : ℕ). b < a) xs → ((i m : ℕ) → slice_get xs i ≡ Some m → m < n) → length xs ≤ n

@@ -1,6 +1,7 @@
 //! Check texts, and what is answered of them.
 use super::*;
-use git_base::Status;
+use git_base::{MemSource, Status};
+use git_replies::Unanswered;
 use std::test::Fail;
 
 /// The quadrant, cut by the ray through (1, 1) into two chambers; its listing and its certificates.
@@ -235,5 +236,20 @@ fn changed_texts_are_answered(rt: HostRuntime) -> Result<(), Fail> {
         assert!(rt; reply.text.as_slice() == wanted.as_bytes(), "{name}");
         assert!(rt; reply.status == status_of(wanted), "{name}");
     }
+    Ok(())
+}
+
+/// A source that gives the bytes a few at a time is answered as they are, and one that fails isn't.
+#[test]
+fn sources_are_answered(rt: HostRuntime) -> Result<(), Fail> {
+    let alloc = rt.alloc();
+    let bytes = TWO.as_bytes();
+    let mut pieces = MemSource::new(bytes.to_vec(alloc)?, 7, Vec::new(alloc));
+    let reply = check_source(alloc, &mut pieces)?;
+    assert!(rt; reply.text.as_slice() == b"valid\n".as_slice());
+    assert!(rt; reply.status == Status::Done);
+    let mut failing = MemSource::new(bytes.to_vec(alloc)?, 7, [3].to_vec(alloc)?);
+    let fault = check_source(alloc, &mut failing);
+    assert!(rt; matches!(fault, Err(Unanswered::ReadFault)));
     Ok(())
 }

@@ -36,7 +36,8 @@ use Rattle.git_listing_fits.proofs.Chambers.{few_facets}
 
 -- ---- lists
 
-by_places : {X : Type 0} (P : X → Type 0) (xs : List X) → ((i : ℕ) (x : X) → slice_get xs i ≡ Some x → P x) → AllByRecursion P xs
+-- what holds at each place
+pub by_places : {X : Type 0} (P : X → Type 0) (xs : List X) → ((i : ℕ) (x : X) → slice_get xs i ≡ Some x → P x) → AllByRecursion P xs
 by_places P [] h = tt
 by_places P (x ∷ xs) h = (h 0 x refl, by_places P xs (λ i y e. h (suc i) y e))
 
