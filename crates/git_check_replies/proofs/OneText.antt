@@ -1,5 +1,5 @@
 -- Bytes have one answer, and a valid text is answered `valid`.
-use Rattle.std.proofs.Common.{◌≡◌, ℕ, ◌+◌, ◌≤◌, List, ◌++◌, length, true, refl, sym, ap, ◌∙◌, subst, inl, inr}
+use Rattle.std.proofs.Common.{◌≡◌, ◌⊎◌, ℕ, ◌+◌, ◌≤◌, List, ◌++◌, length, true, refl, sym, ap, ◌∙◌, subst, inl, inr}
 use Rattle.std.specs.Prelude.{Option, Some}
 use Rattle.git_base.specs.declared.status.Status.TheVariants as statuses
 use Rattle.git_base.specs.declared.status.Status.{Status}
@@ -85,3 +85,30 @@ done_text x text (inr (p, a)) = absurd (not_invalid text _ a.3)
 pub only_valid : (bytes text : List ℕ) → check_case bytes (says statuses.Done text) → (x : CheckText) × IsCheckText bytes x × IsValid x.input x.listing x.certs × (text ≡ valid_text)
 only_valid bytes text (inl a) = absurd (refusals_not_done bytes text a)
 only_valid bytes text (inr (p, (x, is, h))) = let d = done_text x text h in (x, is, d.0, d.1)
+
+-- ---- what an answer is
+IsPlain : Outcome → Type 0
+IsPlain o = (o ≡ says o.status o.text) × ((o.status ≡ statuses.Done) ⊎ (o.status ≡ statuses.Invalid) ⊎ (o.status ≡ statuses.BadInput))
+
+plain : (o : Outcome) (s : Status) (text : List ℕ) → o ≡ says s text → o ≡ says o.status o.text
+plain o s text e = e ∙ (λ i. says (sym e i).status (sym e i).text)
+
+bad_plain : (o : Outcome) (text : List ℕ) → o ≡ says statuses.BadInput text → IsPlain o
+unfolding IsPlain
+bad_plain o text e = (plain o statuses.BadInput text e, inr (inr (ap (λ (p : Outcome). p.status) e)))
+
+refusal_plain : (bytes : List ℕ) (o : Outcome) → no_check_text bytes o → IsPlain o
+refusal_plain bytes o (inl a) = bad_plain o _ a.1
+refusal_plain bytes o (inr (p, inl f)) = bad_plain o _ f.is
+refusal_plain bytes o (inr (p, inr (q, inl f))) = bad_plain o _ f.is
+refusal_plain bytes o (inr (p, inr (q, inr (r, f)))) = bad_plain o _ f.is
+
+checks_plain : (x : CheckText) (o : Outcome) → checks x o → IsPlain o
+unfolding IsPlain
+checks_plain x o (inl a) = (plain o statuses.Done valid_text a.1, inl (ap (λ (p : Outcome). p.status) a.1))
+checks_plain x o (inr (p, a)) = (plain o statuses.Invalid _ a.3, inr (inl (ap (λ (q : Outcome). q.status) a.3)))
+
+pub answer_plain : (bytes : List ℕ) (o : Outcome) → check_case bytes o → (o ≡ says o.status o.text) × ((o.status ≡ statuses.Done) ⊎ (o.status ≡ statuses.Invalid) ⊎ (o.status ≡ statuses.BadInput))
+unfolding IsPlain
+answer_plain bytes o (inl a) = refusal_plain bytes o a
+answer_plain bytes o (inr (p, (x, is, h))) = checks_plain x o h

@@ -1,6 +1,6 @@
 -- What holds of checking bytes.
-use Rattle.std.specs.Prelude.{◌≡◌, ℕ, ◌≤◌, List, ◌++◌, length, true}
-use Rattle.git_base.specs.declared.status.Status.TheVariants.{Done}
+use Rattle.std.specs.Prelude.{◌≡◌, ◌⊎◌, ℕ, ◌≤◌, List, ◌++◌, length, true}
+use Rattle.git_base.specs.declared.status.Status.TheVariants.{BadInput, Done, Invalid}
 use Rattle.git_grading.specs.Gradings.{IsGrading}
 use Rattle.git_answers.specs.Ends.{spelled}
 use Rattle.git_answers.specs.Fan.{Options, fan_of}
@@ -19,7 +19,7 @@ use Rattle.git_check.specs.Checks.{IsInputListing, IsValid}
 use Rattle.git_check_faces.specs.Laws.{AreAccepted}
 use Rattle.git_checktext.specs.declared.limits.TheConstants.{TEXT_BYTES}
 use Rattle.git_checktext.specs.CheckText.{CheckText, IsCheckText, variables}
-use Rattle.git_replies.specs.Cases.{HasOne, says}
+use Rattle.git_replies.specs.Cases.{HasOne, Outcome, says}
 use Rattle.git_check_replies.specs.CheckLines.{valid_text}
 use Rattle.git_check_replies.specs.CheckCases.{check_case}
 
@@ -37,6 +37,10 @@ ValidTextsAreValid = (front : List ℕ) (v : InputValue) (l : Listing) (vs : Lis
 abbrev pub OnlyValidTextsAreValid : Type 0
 OnlyValidTextsAreValid = (bytes text : List ℕ) → check_case bytes (says Done text)
     → (x : CheckText) × IsCheckText bytes x × IsValid x.input x.listing x.certs × (text ≡ valid_text)
+
+-- an answer is a status of three and a text, which no certificates follow
+abbrev pub AnswersArePlain : Type 0
+AnswersArePlain = (bytes : List ℕ) (o : Outcome) → check_case bytes o → (o ≡ says o.status o.text) × ((o.status ≡ Done) ⊎ (o.status ≡ Invalid) ⊎ (o.status ≡ BadInput))
 
 -- ---- what `fan` writes
 

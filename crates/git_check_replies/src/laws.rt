@@ -1,5 +1,5 @@
 //! What holds of checking bytes. Each function is a law: its contract says it.
-ghost use Rattle.git_check_replies.specs.Laws.{FanWritesSuchTexts, OneAnswer, OnlyValidTextsAreValid, ValidTextsAreValid, WrittenTextsAreValid};
+ghost use Rattle.git_check_replies.specs.Laws.{AnswersArePlain, FanWritesSuchTexts, OneAnswer, OnlyValidTextsAreValid, ValidTextsAreValid, WrittenTextsAreValid};
 
 /// Bytes have one answer at most.
 pub fn one_answer()
@@ -14,6 +14,11 @@ pub fn valid_texts_are_valid()
 /// And only an input with a valid listing and valid certificates after it is.
 pub fn only_valid_texts_are_valid()
     ensures { OnlyValidTextsAreValid }
+{}
+
+/// An answer is `Done`, `Invalid` or `BadInput` with a text, which no certificates follow.
+pub fn answers_are_plain()
+    ensures { AnswersArePlain }
 {}
 
 /// What `fan` writes with certificates, where it is done, is the input's listing with one accepted certificate for each
