@@ -1,11 +1,10 @@
 //! Inputs with weights: where the weights lie, and what is answered of others. The places were worked out apart, by the
 //! planes through columns and rays.
-use git_base::Status;
+use git_base::{MemSource, Status};
 use git_limits::STEPS;
 use git_replies::Reply;
 use git_stages::{WideAt, WideWhat};
-use git_weight_replies::{locate_answer, wide_weight_line};
-use git_weighted::{WeightedReading, read_weighted};
+use git_weight_replies::{locate_left, wide_weight_line};
 use std::alloc::Global;
 use std::marker::Sync;
 use std::test::Fail;
@@ -242,33 +241,34 @@ weights\n",
     ),
 ];
 
-/// The answer to bytes, unless memory ran out.
-fn answered<R: Threads + Sync>(rt: &R, alloc: Global, bytes: &[u8], table: u32) -> Option<Reply> {
+/// The answer to bytes, which come in pieces, unless memory ran out.
+fn answered<R: Threads + Sync>(
+    rt: &R,
+    alloc: Global,
+    bytes: &[u8],
+    table: u32,
+) -> Result<Reply, Fail> {
     if table == 0 || table > 65536 {
-        return None;
+        return Err("limits".into());
     }
-    match read_weighted(alloc, bytes) {
-        Ok(WeightedReading::Text(read)) => {
-            locate_answer(rt, alloc, &read.input, &read.weights, table, STEPS).ok()
-        }
-        Ok(WeightedReading::Refused(reply)) => Some(reply),
-        Err(_) => None,
+    let mut source = MemSource::new(bytes.to_vec(alloc)?, 7, Vec::new(alloc));
+    match locate_left(rt, alloc, table, STEPS, &mut source) {
+        Ok(reply) => Ok(reply),
+        Err(_) => Err("memory".into()),
     }
 }
 
 /// Whether a row's bytes are answered as it says.
-fn is_answered<R: Threads + Sync>(rt: &R, alloc: Global, row: &Row) -> bool {
+fn is_answered<R: Threads + Sync>(rt: &R, alloc: Global, row: &Row) -> Result<bool, Fail> {
     let (_name, bytes, table, status, text) = row;
-    match answered(rt, alloc, bytes, *table) {
-        Some(reply) => reply.status == *status && reply.text.as_slice() == *text,
-        None => false,
-    }
+    let reply = answered(rt, alloc, bytes, *table)?;
+    Ok(reply.status == *status && reply.text.as_slice() == *text)
 }
 
 #[test]
 fn weights_lie_where_they_were_found_apart(rt: HostRuntime) -> Result<(), Fail> {
     for row in ROWS {
-        assert!(rt; is_answered(&rt, rt.alloc(), row), "{}", row.0);
+        assert!(rt; is_answered(&rt, rt.alloc(), row)?, "{}", row.0);
     }
     Ok(())
 }
