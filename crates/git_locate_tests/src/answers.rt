@@ -178,6 +178,24 @@ in 1\n\
 end\n",
     ),
     (
+        "the second weight is wide",
+        b"gitfan 1\n\
+grading 3 5\n\
+794 843 636 927 707\n\
+-837 -973 642 766 941\n\
+622 653 637 -743 -939\n\
+ideal 0\n\
+end\n\
+weights 3\n\
+-1 0 0\n\
+707 941 -939\n\
+794 -837 622\n\
+end\n",
+        64,
+        Status::Wide,
+        b"refused wide weight 2 stage 2 vector -1551292224471 -1270320620446 1357062976487\n",
+    ),
+    (
         "a table that is full",
         b"gitfan 1\n\
 grading 2 3\n\
