@@ -4,7 +4,8 @@ use git_base::{MemSource, Status};
 use git_limits::STEPS;
 use git_replies::Reply;
 use git_stages::{WideAt, WideWhat};
-use git_weight_replies::{locate_left, wide_weight_line};
+use git_weight_replies::{locate_answer, wide_weight_line};
+use git_weighted::{WeightedReading, read};
 use std::alloc::Global;
 use std::marker::Sync;
 use std::test::Fail;
@@ -270,10 +271,14 @@ fn answered<R: Threads + Sync>(
         return Err("limits".into());
     }
     let mut source = MemSource::new(bytes.to_vec(alloc)?, 7, Vec::new(alloc));
-    match locate_left(rt, alloc, table, STEPS, &mut source) {
-        Ok(reply) => Ok(reply),
-        Err(_) => Err("memory".into()),
-    }
+    let Ok(reading) = read(alloc, &mut source) else {
+        return Err("memory".into());
+    };
+    let read = match reading {
+        WeightedReading::Text(read) => read,
+        WeightedReading::Refused(reply) => return Ok(reply),
+    };
+    Ok(locate_answer(rt, alloc, &read.input, &read.weights, table, STEPS)?)
 }
 
 /// Whether a row's bytes are answered as it says.

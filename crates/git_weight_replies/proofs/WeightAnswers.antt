@@ -3,7 +3,7 @@ use Rattle.std.proofs.Common.{◌∙◌, ◌<◌, List, arith, inl, inr, length,
 use Rattle.std.specs.Prelude.{Contains, IfOk}
 use Rattle.std.proofs.lemmas.Bool.{cases_lt}
 use Rattle.std.proofs.lemmas.List.{length-map}
-use Rattle.git_base.specs.declared.status.Status.TheVariants.{BadInput, Done, Monomial, Wide}
+use Rattle.git_base.specs.declared.status.Status.TheVariants.{Done, Monomial, Wide}
 use Rattle.git_defs.specs.Faces.{IsGreatestMask}
 use Rattle.git_defs.specs.Vectors.{AllOfLength, Vector}
 use Rattle.git_defs.proofs.Lengths.{all_of_length}
@@ -22,15 +22,9 @@ use Rattle.git_replies.specs.Cases.{HasOne, HasSome, Passes, block, says}
 use Rattle.git_replies.specs.Lines.{monomial_text}
 use Rattle.git_replies.proofs.CaseLaws.{one_of}
 use Rattle.git_answers.specs.Verdicts.{whole_face}
-use Rattle.std.specs.Prelude.{Option}
-use Rattle.git_base.specs.declared.status.Status.{Status}
-use Rattle.git_weighted.specs.Readings.{IsReading}
-use Rattle.git_weighted.specs.declared.reading.WeightedReading.TheVariants.{Refused, Text}
-use Rattle.git_weighted.specs.declared.text.Weighted.{Weighted}
-use Rattle.git_weighted.proofs.WeightedTexts.{weighted_passes}
-use Rattle.git_answers.specs.Ends.{over, spelled}
-use Rattle.git_answers.specs.Fan.{IsFanOf, IsListingOf, Options, has_monomial, refuses}
-use Rattle.git_answers.proofs.Replies.{plain, plain_of, told_replied}
+use Rattle.git_answers.specs.Ends.{spelled}
+use Rattle.git_answers.specs.Fan.{IsFanOf, IsListingOf, Options, has_monomial, listed_then, refuses}
+use Rattle.git_answers.proofs.Replies.{plain}
 use Rattle.git_chamber.specs.Chambers.{first_germ}
 use Rattle.git_chamber.specs.Views.{Graph, IsGraph}
 use Rattle.git_chamber.proofs.Firsts.{first_legal}
@@ -42,7 +36,7 @@ use Rattle.git_fan.proofs.Listings.{listing_answers}
 use Rattle.git_listed_cones.specs.ListedCones.{HasCones}
 use Rattle.git_replies.specs.declared.reply.Reply.{Reply}
 use Rattle.git_answers.proofs.OneFan.{whole_full}
-use Rattle.git_weight_replies.specs.WeightCases.{HasWeights, locate_case, locate_cases, locate_reply_of, located, locates, wide_weight}
+use Rattle.git_weight_replies.specs.WeightCases.{locate_case, locates, wide_weight}
 use Rattle.git_weight_replies.specs.WeightLines.{wide_weight_text}
 
 module _ (ws : List Vector) (fan : Fan) (l : Listing) where
@@ -104,20 +98,6 @@ listed_some v fan l ws graph is lengths =
 
 -- ---- the reply to the weights is the answer to the input
 pub listing_replied : {E : Type 0} (v : InputValue) (n : Options) (ws : List Vector) (g : Graph) (faces : List FaceVerdict) (l : Listing) → HasCones v n g faces l → (r : Result Reply E)
-    → IfOk r (λ a. locate_case ws g.fan l (says a.status a.text.items)) → IfOk r (λ a. spelled v (located n v ws) a.status a.text.items)
+    → IfOk r (λ a. locate_case ws g.fan l (says a.status a.text.items)) → IfOk r (λ a. spelled v (listed_then n (locate_case ws) v) a.status a.text.items)
 listing_replied v n ws g faces l h (Ok a) e = listing_answers v n g faces l h.listed (locate_case ws) a.status a.text.items (plain v (locate_case ws g.fan l) a.status a.status a.text.items a.text.items e refl refl)
 listing_replied v n ws g faces l h (Err e) x = tt
-
--- ---- the answers to bytes
-pub weights_replied : (n : Options) (left : Option (List ℕ)) (x : Weighted) (s : Status) (text : List ℕ) → IsReading left (Text x) → spelled x.input (located n x.input x.weights.items) s text
-    → over left (locate_reply_of n) s text
-weights_replied n left x s text (bytes, left_are, is) d = (
-  bytes,
-  left_are,
-  told_replied (HasWeights bytes) (located n x.input x.weights.items) (locate_cases n bytes) x.input s text (x.weights.items, is)
-      (λ o c. inr (weighted_passes bytes x.input x.weights.items is, (x.input, x.weights.items, is, c))) d,
-)
-
-pub refused_replied : (n : Options) (left : Option (List ℕ)) (a : Reply) → IsReading left (Refused a) → over left (locate_reply_of n) a.status a.text.items
-refused_replied n left a (bytes, left_are, refusal) =
-    (bytes, left_are, plain_of (HasWeights bytes) (locate_cases n bytes) BadInput a.status a.text.items a.text.items (inl refusal.1) refusal.0 refl)

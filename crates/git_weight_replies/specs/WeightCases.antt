@@ -9,11 +9,6 @@ use Rattle.git_locate.specs.Lists.{ArePlaced, IsFirstWideWeight}
 use Rattle.git_locate.specs.Places.{Placed}
 use Rattle.git_locate.specs.PlaceText.{places_text}
 use Rattle.git_replies.specs.Cases.{Case, ◌otherwise◌, says}
-use Rattle.git_answers.specs.Ends.{Reply, spelled_of}
-use Rattle.git_answers.specs.Fan.{Options, listed_then}
-use Rattle.git_input.specs.Inputs.{InputValue}
-use Rattle.git_weighted.specs.Reads.{reads_weighted}
-use Rattle.git_weighted.specs.WeightedInputs.{IsWeightedInput}
 use Rattle.git_weight_replies.specs.WeightLines.{wide_weight_text}
 
 -- a weight is wide, and none before it
@@ -26,20 +21,3 @@ locates weights fan l o = (all : List Placed) × ArePlaced fan l weights all × 
 
 abbrev pub locate_case : List Vector → Fan → Listing → Case
 locate_case weights fan l = wide_weight weights fan otherwise locates weights fan l
-
--- ---- of an input with its weights
--- its chambers aren't listed, or the weights are located beside its cones and its listing
-abbrev pub located : Options → InputValue → List Vector → Case
-located n v weights = listed_then n (locate_case weights) v
-
--- the bytes are no input with weights, or the cases of these
-abbrev pub locate_cases : Options → List ℕ → Case
-locate_cases n bytes = reads_weighted (located n) bytes
-
--- the bytes are this input, with some weights after it
-abbrev pub HasWeights : List ℕ → InputValue → Type 0
-HasWeights bytes v = (weights : List Vector) × IsWeightedInput bytes v weights
-
--- the answer's status and text
-abbrev pub locate_reply_of : Options → List ℕ → Reply
-locate_reply_of n bytes = spelled_of (HasWeights bytes) (locate_cases n bytes)

@@ -21,7 +21,7 @@ use Rattle.git_weights.specs.declared.fault.WeightsFault.{WeightsFault}
 use Rattle.git_weights.specs.declared.fault.WeightsFault.TheVariants.{Bad, NoMemory}
 use Rattle.git_weights.proofs.Answers.{no_fault, one_fault, one_list, weights_or_fault}
 use Rattle.git_weights.proofs.Small.{small_weights}
-use Rattle.git_replies.specs.Cases.{Case, HasOne, HasSome, Passes, says}
+use Rattle.git_replies.specs.Cases.{HasOne, HasSome, Passes, says}
 use Rattle.git_replies.specs.Reads.{too_long}
 use Rattle.git_replies.specs.Refusals.{fault_text, long_text}
 use Rattle.git_replies.specs.declared.reply.Reply as code
@@ -32,7 +32,7 @@ use Rattle.git_checktext.specs.CheckText.{lines_within}
 use Rattle.git_checktext.specs.Reads.{NamesInputFault}
 use Rattle.git_checktext.proofs.Texts.{front_or_fault, front_passes, input_one}
 use Rattle.git_weighted.specs.WeightedInputs.{IsWeightedInput}
-use Rattle.git_weighted.specs.Reads.{NamesWeightsFault, no_weighted_input, of_weighted_input, reads_weighted}
+use Rattle.git_weighted.specs.Reads.{NamesWeightsFault, no_weighted_input}
 use Rattle.git_weighted.specs.Readings.{IsReading, IsRefusal}
 use Rattle.git_weighted.specs.Refusals.{weights_fault_text}
 use Rattle.git_weighted.specs.declared.reading.WeightedReading.TheVariants.{Refused}
@@ -105,21 +105,6 @@ front_read bytes few = elim (front_or_fault bytes) [
 pub weighted_or_refusal : (bytes : List ℕ) → ((v : InputValue) × (ws : List Vector) × IsWeightedInput bytes v ws) ⊎ HasSome (no_weighted_input bytes)
 unfolding IsReadOrRefused
 weighted_or_refusal bytes = elim (cases_lt INPUT_BYTES (length bytes)) [ inl long ↦ inr (says BadInput long_text, inl (long, refl)) | inr few ↦ front_read bytes few ]
-
--- ---- the answer to any bytes, where inputs with weights have one
-pub of_one : (bytes : List ℕ) (cases : InputValue → List Vector → Case) → ((v : InputValue) (ws : List Vector) → IsWeightedInput bytes v ws → HasOne (cases v ws)) → HasOne (of_weighted_input bytes cases)
-of_one bytes cases one x y a b =
-    let same = one_weighted bytes a.0 b.0 a.1 b.1 a.2 b.2 in
-    one a.0 a.1 a.2 x y a.3 (subst (λ (v : InputValue). cases v a.1 y) (sym same.0) (subst (λ (ws : List Vector). cases b.0 ws y) (sym same.1) b.3))
-
-pub reads_one : (cases : InputValue → List Vector → Case) (bytes : List ℕ) → ((v : InputValue) (ws : List Vector) → IsWeightedInput bytes v ws → HasOne (cases v ws)) → HasOne (reads_weighted cases bytes)
-reads_one cases bytes one = one_of (no_weighted_input bytes) (of_weighted_input bytes cases) (refusal_one bytes) (λ p. of_one bytes cases one)
-
-pub reads_some : (cases : InputValue → List Vector → Case) (bytes : List ℕ) → ((v : InputValue) (ws : List Vector) → IsWeightedInput bytes v ws → HasSome (cases v ws)) → HasSome (reads_weighted cases bytes)
-reads_some cases bytes some = elim (weighted_or_refusal bytes) [
-  | inl w ↦ (let o = some w.0 w.1 w.2 in (o.0, inr (weighted_passes bytes w.0 w.1 w.2, (w.0, w.1, w.2, o.1))))
-  | inr r ↦ (r.0, inl r.1)
-]
 
 -- ---- weights after an input
 pub follows : (front rest : List ℕ) (v : InputValue) (ws : List Vector) → IsInput front v → is_ended front ≡ true → IsWeights v.degrees.k rest ws → length (front ++ rest) ≤ INPUT_BYTES
