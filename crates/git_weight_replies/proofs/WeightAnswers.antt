@@ -1,5 +1,5 @@
 -- What is answered of weights is one thing.
-use Rattle.std.proofs.Common.{◌∙◌, ◌<◌, List, arith, inl, inr, length, refl, sym, Result, Ok, Err}
+use Rattle.std.proofs.Common.{◌∙◌, ◌<◌, List, arith, inl, inr, length, refl, sym, Result, Ok, Err, ℕ, subst}
 use Rattle.std.specs.Prelude.{Contains, IfOk}
 use Rattle.std.proofs.lemmas.Bool.{cases_lt}
 use Rattle.std.proofs.lemmas.List.{length-map}
@@ -23,9 +23,14 @@ use Rattle.git_replies.specs.Lines.{monomial_text}
 use Rattle.git_replies.proofs.CaseLaws.{one_of}
 use Rattle.git_answers.specs.Verdicts.{whole_face}
 use Rattle.git_answers.specs.Ends.{spelled}
-use Rattle.git_answers.specs.Fan.{IsFanOf, Options, has_monomial, listed_then}
+use Rattle.git_answers.specs.Fan.{IsFanOf, IsListingOf, Options, has_monomial, listed_then, refuses}
 use Rattle.git_answers.proofs.Replies.{plain}
-use Rattle.git_chamber.specs.Views.{Graph}
+use Rattle.git_chamber.specs.Chambers.{first_germ}
+use Rattle.git_chamber.specs.Views.{Graph, IsGraph}
+use Rattle.git_chamber.proofs.Firsts.{first_legal}
+use Rattle.git_covering.proofs.Short.{short_listing}
+use Rattle.git_orbit.specs.Signatures.{IsSignature}
+use Rattle.git_orbit.proofs.Fans.{first_is_whole}
 use Rattle.git_facecert.specs.declared.certificate.FaceVerdict.{FaceVerdict}
 use Rattle.git_fan.proofs.Listings.{listing_answers}
 use Rattle.git_listed_cones.specs.ListedCones.{HasCones}
@@ -73,6 +78,23 @@ module _ (v : InputValue) (graded : IsGrading v.degrees.k v.degrees.columns) whe
     | inl some ↦ some
     | inr none ↦ absurd (passes (record { status = Monomial; text = monomial_text; tail = block (whole_face v) }) ((λ a. (let some = has_cone fan is a in omega (arith, some, none))), refl))
   ]
+
+-- ---- the weights of an input that isn't refused
+pub listed_one : (v : InputValue) (n : Options) (fan : Fan) (l : Listing) (ws : List Vector) → IsGrading v.degrees.k v.degrees.columns → Passes (refuses n v) → IsListingOf v fan l → HasOne (locate_case ws fan l)
+listed_one v n fan l ws graded passes is =
+    one_answered ws fan l (some_cone v graded fan (λ o c. passes o (inr ((λ p d. passes p (inl d)), inl c))) is.opening.is_fan)
+
+pub listed_some : (v : InputValue) (fan : Fan) (l : Listing) (ws : List Vector) → IsGraph (record { fan = fan; columns = v.degrees.columns }) → IsListingOf v fan l → AllOfLength v.degrees.k ws
+    → HasSome (locate_case ws fan l)
+listed_some v fan l ws graph is lengths =
+    let columns = v.degrees.columns in
+    let g : Graph = record { fan = fan; columns = columns } in
+    let fans : IsFan fan.k fan.list = record { columns = columns; grading = graph.grading; masks = graph.cones.masks; faces = graph.cones.faces; cones = graph.cones.cones } in
+    let k = is.opening.is_fan.k in
+    let first = subst (λ (n : ℕ). IsSignature fan (first_germ n columns) is.first) (sym k) is.opening.is_first in
+    let legal = first_legal g graph is.first first in
+    let some = (first_is_whole fan.k columns graph.cones.masks fan.list graph.grading.rank graph.cones.cones graph.cones.whole).0 in
+    some_answered ws fan l fans some (short_listing fan fans is.first (length columns) l legal is.listing) (subst (λ (n : ℕ). AllOfLength n ws) (sym k) lengths)
 
 -- ---- the reply to the weights is the answer to the input
 pub listing_replied : {E : Type 0} (v : InputValue) (n : Options) (ws : List Vector) (g : Graph) (faces : List FaceVerdict) (l : Listing) → HasCones v n g faces l → (r : Result Reply E)

@@ -1,5 +1,5 @@
 //! Laws of the answers. Each function is a law: its contract says it.
-ghost use Rattle.git_weight_replies.specs.Laws.{OneAnswer, SomeAnswer, ListedInputsHaveCones};
+ghost use Rattle.git_weight_replies.specs.Laws.{OneAnswer, SomeAnswer, ListedInputsHaveCones, ListedWeightsHaveOneAnswer, ListedWeightsHaveSomeAnswer};
 
 /// Of weights beside a listing and its cones one thing is answered at most.
 pub fn one_answer()
@@ -14,4 +14,14 @@ pub fn some_answer()
 /// An input without a monomial has a cone, so the two laws above are about each listing of an input that isn't refused.
 pub fn listed_inputs_have_cones()
     ensures { ListedInputsHaveCones }
+{}
+
+/// Of the weights of an input that isn't refused one thing is answered at most.
+pub fn listed_weights_have_one_answer()
+    ensures { ListedWeightsHaveOneAnswer }
+{}
+
+/// And something is, where each has as many entries as the grading has rows.
+pub fn listed_weights_have_some_answer()
+    ensures { ListedWeightsHaveSomeAnswer }
 {}
