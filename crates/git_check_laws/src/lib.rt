@@ -1,0 +1,7 @@
+//! What holds of the answer on a listing and certificates that somebody else made. Each function is a law: its contract
+//! says it.
+#![tactic(auto)]
+
+mod laws;
+
+pub use laws::check_has_one_answer;
