@@ -1,1 +1,4 @@
 pub mod OneAnswer
+pub mod Decisions
+pub mod Paths
+pub mod Owns
