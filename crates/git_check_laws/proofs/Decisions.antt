@@ -1,5 +1,5 @@
 -- What is decided: equality of numbers, vectors and lists, and whether something holds at some place.
-use Rattle.std.proofs.Common.{◌≡◌, ◌∙◌, ◌∷◌, [], ◌<◌, ℕ, zero, suc, ℤ, inl, inr, List, length, get_or, ap, refl, sym, subst, arith}
+use Rattle.std.proofs.Common.{◌≡◌, ◌∷◌, [], ◌<◌, ℕ, zero, suc, ℤ, inl, inr, List, length, get_or, ap, refl, subst, arith}
 use Rattle.std.proofs.Math.IntN.{pos, negsuc}
 use Rattle.std.specs.Prelude.{Bool, true, false, Option, Some, None, Contains}
 use Rattle.std.specs.declared.cmp.Ordering.{Ordering}
@@ -90,7 +90,7 @@ both_decided (inl p) (inl q) = inl (p, q)
 both_decided (inl p) (inr never) = inr (λ b. never b.1)
 both_decided (inr never) q = inr (λ b. never b.0)
 
-pub test_of : {P : Type 0} → Decided P → Bool
+abbrev pub test_of : {P : Type 0} → Decided P → Bool
 test_of (inl p) = true
 test_of (inr never) = false
 

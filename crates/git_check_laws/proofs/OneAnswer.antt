@@ -9,7 +9,7 @@ use Rattle.git_asked.specs.declared.finding.Finding.{Finding}
 use Rattle.git_asked.specs.Findings.{Finds}
 use Rattle.git_asked.proofs.Joined.{one_finding}
 use Rattle.git_check.specs.Texts.{AsksText}
-use Rattle.git_check.specs.Checks.{IsChecked, checked_of, section_of}
+use Rattle.git_check.specs.Checks.{IsChecked, checked_of}
 use Rattle.git_check.specs.declared.checked.Section.{Section}
 use Rattle.git_check.specs.declared.checked.Checked.{Checked}
 use Rattle.git_check.specs.declared.checked.Checked.TheVariants.{Valid, Invalid}

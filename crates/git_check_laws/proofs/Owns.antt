@@ -1,10 +1,10 @@
 -- A chamber by itself has a first reason, or none.
-use Rattle.std.proofs.Common.{◌≡◌, ◌≤◌, ◌<◌, ℕ, List, All, inl, inr, length, refl, sym, subst, arith}
+use Rattle.std.proofs.Common.{ℕ, List, All, inl, inr, length, arith}
 use Rattle.std.specs.Prelude.{Option, Some, None}
 use Rattle.std.proofs.lemmas.Bool.{cases_lt}
 use Rattle.git_lemmas.proofs.Members.{all_member}
 use Rattle.git_defs.specs.Vectors.{AllOfLength, HasRank, Vector}
-use Rattle.git_defs.proofs.Lengths.{OfLength, of_length_all}
+use Rattle.git_defs.proofs.Lengths.{of_length_all}
 use Rattle.git_machine.specs.Signatures.{Has, Signature}
 use Rattle.git_stages.specs.Short.{IsShort}
 use Rattle.git_stages.proofs.Decided.{rank_exists, wide_decided}

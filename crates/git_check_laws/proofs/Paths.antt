@@ -31,7 +31,7 @@ module _ (leads : ℕ → ℕ → Type 0) where
     | inr at ↦ (
         let e : m ≡ k = omega (arith, low, at) in
         inr (to_last k i (subst (λ (n : ℕ). Through (suc k) i n) e p), from_last k j (subst (λ (n : ℕ). Through (suc k) n j) e q))
-      )
+        )
   ]
 
   through : (n first : ℕ) → ((i j : ℕ) → leads i j → i < n) → (way : List ℕ) (s : ℕ) → Way leads first way s → Through n first s

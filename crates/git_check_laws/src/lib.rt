@@ -4,4 +4,4 @@
 
 mod laws;
 
-pub use laws::check_has_one_answer;
+pub use laws::{check_has_an_answer, check_has_one_answer};
