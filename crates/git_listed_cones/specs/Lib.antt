@@ -1,0 +1,2 @@
+pub use Rattle.git_fan.specs.Fans
+pub mod ListedCones
