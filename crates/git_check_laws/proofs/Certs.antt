@@ -1,6 +1,8 @@
 -- Certificates have a first finding, or none.
-use Rattle.std.proofs.Common.{◌≡◌, ℕ, List, inl, inr, length, subst, arith}
+use Rattle.std.proofs.Common.{◌≡◌, ◌<◌, ◌≤◌, ◌^◌, ℕ, List, Global, inl, inr, length, le_refl, refl, subst, arith}
 use Rattle.std.specs.Prelude.{Option, Some, None, slice_get}
+use Rattle.std.specs.Global.{Vec}
+use denote.RawPtr.{null_ptr}
 use Rattle.std.proofs.lemmas.Bool.{cases_lt}
 use Rattle.git_lemmas.proofs.Options.{some_is}
 use Rattle.git_algebra.specs.Polynomials.{Polynomial}
@@ -11,18 +13,19 @@ use Rattle.git_facecert.specs.Answers.{IsAnswer}
 use Rattle.git_facecert.specs.declared.certificate.Accepted.{Accepted}
 use Rattle.git_facecert.specs.declared.certificate.Accepted.TheVariants.{Yes, No}
 use Rattle.git_facecert.specs.declared.certificate.FaceCert.{FaceCert}
-use Rattle.git_facecert.specs.declared.certificate.FaceVerdict.{FaceVerdict}
+use Rattle.git_facecert.specs.declared.certificate.FaceCert.TheVariants as certs
 use Rattle.git_facecert.proofs.SomeAnswer.{some_answer}
 use Rattle.git_faces.specs.FullFaces.{AreFullFaces}
 use Rattle.git_faces.proofs.FullLists.{some as full_list}
-use Rattle.git_certtext.specs.Blocks.{Block, Cert, block_of, blocks_of, cert_of, free, monomial}
+use Rattle.git_certtext.specs.Blocks.{Block, Cert, FitsBlock, FitsCert, FitsCerts, cert_of, free, monomial}
 use Rattle.git_answers.specs.Verdicts.{whole_face}
 use Rattle.git_asked.specs.declared.finding.Reason.{Reason}
 use Rattle.git_asked.specs.declared.finding.Reason.TheVariants.{CertRefused, Monomial, VerdictMissing}
 use Rattle.git_asked.specs.Findings.{earlier_of}
 use Rattle.git_asked.proofs.Joined.{finds_both}
-use Rattle.git_asked.proofs.Places.{got, map_from, within}
+use Rattle.git_asked.proofs.Places.{all_at, got, within}
 use Rattle.git_check_chambers.specs.Families.{AtLines, OfEach}
+use Rattle.git_check_chambers.proofs.Sizes.{each_of}
 use Rattle.git_check_faces.specs.Faces.{AsksEnd, AsksFaces, AsksOfFace, FaceAt, IsAccepted, IsFreeCert, face_line}
 use Rattle.git_check_faces.proofs.Reasons.{answers_yes, end_fails, end_holds, face_holds, in_place, is_monomial, is_refused, out_of_place, refused_is}
 use Rattle.git_check_laws.proofs.Chambers.{HasFinding, at_a_line, each_finding}
@@ -33,8 +36,24 @@ by_answer : (generators : List Polynomial) (mask : ℕ) (cert : FaceCert) (a : A
 by_answer generators mask cert Yes h = inl ((answers_yes generators mask cert).1 h)
 by_answer generators mask cert (No place) h = inr (refused_is generators mask cert place h)
 
-accepted_decided : (generators : List Polynomial) (f : FaceVerdict) → Decided (IsAccepted generators f.mask (cert_of f.cert))
-accepted_decided generators f = let a = some_answer generators f.mask f.cert in by_answer generators f.mask f.cert a.0 a.1
+-- a vector with these elements
+abbrev heap : Global
+heap = record { memory = record { seal = tt } }
+
+abbrev vector_of : {X : Type 0} (xs : List X) → length xs < 2 ^ 63 → Vec X
+vector_of xs small = record { ptr = null_ptr; len = length xs; cap = length xs; alloc = heap; items = xs; ok = (refl, le_refl (length xs)); small = small }
+
+accepted_decided : (r : ℕ) (generators : List Polynomial) (mask : ℕ) (cert : Cert) → FitsCert r cert → Decided (IsAccepted generators mask cert)
+accepted_decided r generators mask (free members) fits =
+    let few : length members ≤ 65536 = fits.1 in
+    let made : FaceCert = certs.Free (vector_of members (omega (arith, few))) in
+    let a = some_answer generators mask made in
+    by_answer generators mask made a.0 a.1
+accepted_decided r generators mask (monomial power cofactors) fits =
+    let few : length cofactors ≤ 64 = fits.1 in
+    let made : FaceCert = certs.Monomial power (vector_of cofactors (omega (arith, few))) in
+    let a = some_answer generators mask made in
+    by_answer generators mask made a.0 a.1
 
 free_decided : (mask whole : ℕ) (cert : Cert) → Decided (mask ≡ whole → IsFreeCert cert)
 free_decided mask whole (free members) = inl (λ e. tt)
@@ -52,15 +71,15 @@ stands_decided masks i mask = elim (cases_lt i (length masks)) [
       )
 ]
 
-module _ (v : InputValue) (masks : List ℕ) (are : AreFullFaces v.degrees.k v.degrees.columns masks) where
-  face_reason : (i : ℕ) (f : FaceVerdict) → HasReason (AsksOfFace v i (block_of f))
-  face_reason i f = elim (stands_decided masks i f.mask) [
-    | inr never ↦ (Some VerdictMissing, out_of_place v i (block_of f) masks are never)
-    | inl at ↦ elim (accepted_decided v.generators f) [
-      | inr never ↦ (Some CertRefused, is_refused v i (block_of f) masks are at never)
-      | inl accepted ↦ elim (free_decided f.mask (whole_face v) (cert_of f.cert)) [
-        | inr never ↦ (Some Monomial, is_monomial v i (block_of f) masks are at accepted never)
-        | inl is ↦ (None, face_holds v i (block_of f) (in_place v i (block_of f) masks are at) accepted is)
+module _ (v : InputValue) (masks : List ℕ) (are : AreFullFaces v.degrees.k v.degrees.columns masks) (r : ℕ) where
+  face_reason : (i : ℕ) (b : Block) → FitsBlock r b → HasReason (AsksOfFace v i b)
+  face_reason i b fits = elim (stands_decided masks i b.mask) [
+    | inr never ↦ (Some VerdictMissing, out_of_place v i b masks are never)
+    | inl at ↦ elim (accepted_decided r v.generators b.mask b.cert fits.cert) [
+      | inr never ↦ (Some CertRefused, is_refused v i b masks are at never)
+      | inl accepted ↦ elim (free_decided b.mask (whole_face v) b.cert) [
+        | inr never ↦ (Some Monomial, is_monomial v i b masks are at accepted never)
+        | inl is ↦ (None, face_holds v i b (in_place v i b masks are at) accepted is)
       ]
     ]
   ]
@@ -71,15 +90,12 @@ module _ (v : InputValue) (masks : List ℕ) (are : AreFullFaces v.degrees.k v.d
     | inr more ↦ (None, end_holds v bs masks are (omega (arith, more)))
   ]
 
-  of_blocks : (vs : List FaceVerdict) → HasFinding (AsksFaces v (blocks_of vs))
-  of_blocks vs =
-      let bs = blocks_of vs in
-      let each = each_finding (FaceAt v bs) bs (λ i b e. (
-      let f = map_from block_of vs i b e in
-      subst (λ (c : Block). HasFinding (FaceAt v bs i c)) f.2 (at_a_line (λ (r : Reason). face_line bs i) (AsksOfFace v i (block_of f.0)) (face_reason i f.0))
-      )) in
-      let end = at_a_line (λ (r : Reason). face_line bs (length bs)) (AsksEnd v bs) (end_reason bs) in
-      (earlier_of each.0 end.0, finds_both (OfEach (FaceAt v bs) bs) (AtLines (λ (r : Reason). face_line bs (length bs)) (AsksEnd v bs)) each.0 end.0 each.1 end.1)
+  of_blocks : (bs : List Block) → FitsCerts r bs → HasFinding (AsksFaces v bs)
+  of_blocks bs fits =
+      let fit : (i : ℕ) (b : Block) → slice_get bs i ≡ Some b → FitsBlock r b = (λ i b e. all_at (FitsBlock r) bs i b (each_of (FitsBlock r) bs fits.each) e) in
+      let each = each_finding (FaceAt v bs) bs (λ i b e. at_a_line (λ (q : Reason). face_line bs i) (AsksOfFace v i b) (face_reason i b (fit i b e))) in
+      let end = at_a_line (λ (q : Reason). face_line bs (length bs)) (AsksEnd v bs) (end_reason bs) in
+      (earlier_of each.0 end.0, finds_both (OfEach (FaceAt v bs) bs) (AtLines (λ (q : Reason). face_line bs (length bs)) (AsksEnd v bs)) each.0 end.0 each.1 end.1)
 
-pub faces_finding : (v : InputValue) (vs : List FaceVerdict) → IsGrading v.degrees.k v.degrees.columns → HasFinding (AsksFaces v (blocks_of vs))
-faces_finding v vs g = let all = full_list v.degrees.k v.degrees.columns g.matrix.lengths in of_blocks v all.0 all.1 vs
+pub faces_finding : (v : InputValue) (r : ℕ) (bs : List Block) → IsGrading v.degrees.k v.degrees.columns → FitsCerts r bs → HasFinding (AsksFaces v bs)
+faces_finding v r bs g fits = let all = full_list v.degrees.k v.degrees.columns g.matrix.lengths in of_blocks v all.0 all.1 r bs fits

@@ -6,3 +6,4 @@ pub mod Facets
 pub mod Chambers
 pub mod Certs
 pub mod SomeAnswer
+pub mod EachText

@@ -7,8 +7,7 @@ use Rattle.git_ideals.specs.Faces.{IsAFace}
 use Rattle.git_listing.specs.Limits.{FitsListing}
 use Rattle.git_listing.specs.Listings.{Listing}
 use Rattle.git_listing.proofs.ReadingLaws.{may_be_printed}
-use Rattle.git_facecert.specs.declared.certificate.FaceVerdict.{FaceVerdict}
-use Rattle.git_certtext.specs.Blocks.{Block, blocks_of}
+use Rattle.git_certtext.specs.Blocks.{Block, FitsCerts}
 use Rattle.git_answers.specs.Verdicts.{whole_face}
 use Rattle.git_answers.specs.Fan.{wide_cone}
 use Rattle.git_replies.specs.Cases.{Passes}
@@ -57,12 +56,12 @@ module _ (v : InputValue) (l : Listing) (bs : List Block) (g : IsGrading v.degre
   by_faces None h = after_faces h
   by_faces (Some f) h = (Some f, face_fails v l bs sizes f.reason f.line h)
 
-module _ (v : InputValue) (l : Listing) (vs : List FaceVerdict) (g : IsGrading v.degrees.k v.degrees.columns) (fits : FitsListing l) where
-  text_finding : HasFinding (AsksText v l (blocks_of vs))
+module _ (v : InputValue) (l : Listing) (bs : List Block) (g : IsGrading v.degrees.k v.degrees.columns) (fits : FitsListing l) (certs_fit : FitsCerts (length v.degrees.columns) bs) where
+  text_finding : HasFinding (AsksText v l bs)
   text_finding = elim (both_decided (nat_decided l.k v.degrees.k) (nat_decided l.r (length v.degrees.columns))) [
-    | inr never ↦ (Some _, shape_fails v l (blocks_of vs) never)
-    | inl sizes ↦ (let faces = faces_finding v vs g in by_faces v l (blocks_of vs) g fits sizes faces.0 faces.1)
+    | inr never ↦ (Some _, shape_fails v l bs never)
+    | inl sizes ↦ (let faces = faces_finding v (length v.degrees.columns) bs g certs_fit in by_faces v l bs g fits sizes faces.0 faces.1)
   ]
 
-  pub some_answer : (c : Checked) × IsChecked v l (blocks_of vs) c
-  some_answer = let found = text_finding in (checked_of found.0, is_checked v l (blocks_of vs) g (may_be_printed l fits) found.0 found.1)
+  pub some_answer : (c : Checked) × IsChecked v l bs c
+  some_answer = let found = text_finding in (checked_of found.0, is_checked v l bs g (may_be_printed l fits) found.0 found.1)

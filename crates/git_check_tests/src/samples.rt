@@ -1,5 +1,5 @@
-//! Check texts: an input, a listing and certificates, one directly after the other. The listings are worked by hand, and
-//! the certificates are those of `faces`.
+//! Check texts: an input, a listing and certificates, one directly after the other. The listings are worked by hand or
+//! those of the examples, and the certificates are those of `faces`.
 
 /// Three columns of the plane, the ideal 0, its two chambers, and certificates.
 pub const TWO: &str = "gitfan 1
