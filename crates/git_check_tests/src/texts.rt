@@ -3,6 +3,7 @@
 use crate::samples::{
     CROSSED, MONOMIAL, OLD, OVERLAP, PLANES, TURNED, TWO, UNREACHED, WIDE_CHAMBER, WIDE_CONE,
 };
+use git_base::Status;
 use git_check_replies::check_answer;
 use std::alloc::Global;
 use std::test::Fail;
@@ -198,6 +199,27 @@ const OLD_ROWS: &[Row] = &[
             (22, ""),
         ],
         "invalid 15 neighbour\n",
+    ),
+    (
+        "chamber 1 twice",
+        &[
+            (10, "chambers 3\n"),
+            (
+                17,
+                "chamber 2\nray 0 1\nray 1 1\nweight 1 2\nfacet -1 1 inner 3\nfacet 1 0 boundary\nchamber 3\n",
+            ),
+        ],
+        "invalid 17 order\n",
+    ),
+    (
+        "face 5 left out",
+        &[(25, "faces 3\n"), (30, ""), (31, "")],
+        "invalid 30 verdictmissing\n",
+    ),
+    (
+        "a wrong certificate of face 6",
+        &[(29, "g T(2)\n")],
+        "invalid 28 certrefused\n",
     ),
     (
         "another weight",
@@ -442,6 +464,26 @@ fn each_reason_is_given_at_its_first_line(rt: HostRuntime) -> Result<(), Fail> {
     for (text, rows) in tables {
         for row in rows {
             assert!(rt; is_answered(rt.alloc(), text, row)?, "{}", row.0);
+        }
+    }
+    Ok(())
+}
+
+/// Whether the first bytes of the text, cut off before its end, are answered as no check text.
+fn is_refused(alloc: Global, text: &str, length: usize) -> Result<bool, Fail> {
+    let bytes = text.as_bytes();
+    if length >= bytes.len() {
+        return Ok(false);
+    }
+    let reply = check_answer(alloc, &bytes[..length])?;
+    Ok(reply.status == Status::BadInput)
+}
+
+#[test]
+fn texts_that_are_cut_off_are_refused(rt: HostRuntime) -> Result<(), Fail> {
+    for text in [OLD, CROSSED] {
+        for length in 0..text.len() {
+            assert!(rt; is_refused(rt.alloc(), text, length)?, "{length}");
         }
     }
     Ok(())
