@@ -2,6 +2,7 @@ pub mod Bits
 pub mod Blending
 pub mod Counting
 pub mod Enough
+pub mod Kept
 pub mod Makes
 pub mod Marking
 pub mod Nexts

@@ -14,7 +14,7 @@ use crate::marks::{common, has_common, mark, share_enough};
 use crate::ray::Ray;
 use git_base::NoMemory;
 use git_ints::IVec;
-use git_stages::{add, is_same, product, turned};
+use git_stages::{add, is_level, is_same, product, turned};
 use std::alloc::Global;
 
 /// The vectors above an inequality, on it, and below it.
@@ -317,8 +317,50 @@ fn move_all(from: Vec<Ray>, out: &mut Vec<Ray>) -> Result<(), NoMemory>
     }
 }
 
-/// The vectors after the inequality at place `n`.
-pub fn next(
+/// Whether one of the vectors is below an inequality.
+fn cuts_off(k: usize, b: &IVec, rays: &[Ray]) -> bool
+    requires b { IsShort k b.now }
+    requires rays { All (λ r. IsShort k r.vector) rays.now }
+    ensures { IsTrue result ↔ ((x : Vector) × Contains (vectors rays.now) x × (dot b.now x <ℤ pos 0)) }
+{
+    for r in rays {
+        if product(k, b, &r.vector) < 0 {
+            return true;
+        }
+    }
+    false
+}
+
+/// Gives a vector the mark of an inequality, if it is on it.
+fn mark_level(k: usize, inequalities: &[IVec], b: &IVec, width: usize, ray: &mut Ray)
+    requires b { IsShort k b.now }
+    requires ray { IsRay k inequalities.now width ray.old }
+    requires room { length inequalities.now < 64 * width }
+    ensures vector { ray.new.vector ≡ ray.old.vector }
+    ensures marked { IsMarkedRay (inequalities.now ++ b.now ∷ []) width ray.new }
+{
+    if is_level(k, b, &ray.vector) {
+        mark(&mut ray.zeros, inequalities.len());
+    }
+}
+
+/// The same vectors, where those on an inequality have its mark.
+fn with_marks(k: usize, inequalities: &[IVec], b: &IVec, width: usize, rays: Vec<Ray>) -> Vec<Ray>
+    requires b { IsShort k b.now }
+    requires rays { All (IsRay k inequalities.now width) rays.items }
+    requires room { length inequalities.now < 64 * width }
+    ensures vectors { vectors result.items ≡ vectors rays.items }
+    ensures marked { All (IsMarkedRay (inequalities.now ++ b.now ∷ []) width) result.items }
+{
+    let mut out = rays;
+    for i in 0..out.len() {
+        mark_level(k, inequalities, b, width, &mut out[i]);
+    }
+    out
+}
+
+/// The vectors after the inequality at place `n`, which cuts some off.
+fn after_cut(
     alloc: Global,
     k: usize,
     ordered: &[IVec],
@@ -349,4 +391,28 @@ pub fn next(
     let _above = move_all(above, &mut out)?;
     let _level = move_all(level, &mut out)?;
     Ok(out)
+}
+
+/// The vectors after the inequality at place `n`. Where it cuts none off, they stay where they are.
+pub fn next(
+    alloc: Global,
+    k: usize,
+    ordered: &[IVec],
+    n: usize,
+    width: usize,
+    rays: Vec<Ray>,
+) -> Result<Vec<Ray>, NoMemory>
+    requires ordered { All (IsShort k) ordered.now }
+    requires at { n < length ordered.now }
+    requires room { length ordered.now ≤ 64 * width }
+    requires rays { All (IsRay k (take n ordered.now) width) rays.items }
+    requires pointed { IsPointed k (Cut k (take n ordered.now)) }
+    requires exact { Exact k (take n ordered.now) (vectors rays.items) }
+    ensures next { IfOk result (λ v. IsNext (take n ordered.now) (vectors rays.items) (get_or ordered.now n []) (vectors v.items)) }
+    ensures marked { IfOk result (λ v. All (IsMarkedRay (take (n + 1) ordered.now) width) v.items) }
+{
+    if cuts_off(k, &ordered[n], &rays) {
+        return after_cut(alloc, k, ordered, n, width, rays);
+    }
+    Ok(with_marks(k, &ordered[..n], &ordered[n], width, rays))
 }

@@ -146,10 +146,10 @@ pub fn meet_in_faces(
     match full_rays(alloc, k, &both) {
         Err(fault) => Err(fault),
         Ok(common) => {
-            let Ok(first) = is_face_of(alloc, k, one, other, &common.list) else {
+            let Ok(first) = is_face_of(alloc, k, one, other, &common) else {
                 return Err(StageFault::NoMemory);
             };
-            let Ok(second) = is_face_of(alloc, k, other, one, &common.list) else {
+            let Ok(second) = is_face_of(alloc, k, other, one, &common) else {
                 return Err(StageFault::NoMemory);
             };
             Ok(are_both(first, second))

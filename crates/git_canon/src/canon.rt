@@ -9,7 +9,7 @@ ghost use Rattle.git_canon.specs.Canons.{IsCanonOf, IsCanonFault, IsFaultFrom, H
 
 use crate::dropping::undominated;
 use crate::sameness::{are_same, is_inside};
-use git_dd::{StageFault, full_rays};
+use git_dd::{StageFault, full_rays_of};
 use git_ints::IVec;
 use git_stages::{WideAt, prepared};
 use std::alloc::Global;
@@ -67,18 +67,18 @@ impl Canon {
         ensures narrow { IfOk result (λ c. NeverWide k generators.now) }
         ensures wide { IfErr result (λ f. IsCanonFault k generators.now f) }
     {
-        match full_rays(alloc, k, generators) {
+        let Ok(list) = prepared(alloc, k, generators) else {
+            return Err(CanonFault::NoMemory);
+        };
+        match full_rays_of(alloc, k, generators, &list) {
             Err(fault) => Err(converted(fault)),
-            Ok(description) => {
-                let Ok(list) = prepared(alloc, k, generators) else {
-                    return Err(CanonFault::NoMemory);
-                };
-                let Ok(extreme) = undominated(alloc, k, &description.list, &list) else {
+            Ok(found) => {
+                let Ok(extreme) = undominated(alloc, k, &found, &list) else {
                     return Err(CanonFault::NoMemory);
                 };
                 Ok(Canon {
                     rays: extreme,
-                    facets: description.list,
+                    facets: found,
                 })
             }
         }
@@ -101,17 +101,17 @@ impl Canon {
         ensures narrow { IfOk result (λ c. NeverWide k inequalities.now) }
         ensures wide { IfErr result (λ f. IsCanonFault k inequalities.now f) }
     {
-        match full_rays(alloc, k, inequalities) {
+        let Ok(list) = prepared(alloc, k, inequalities) else {
+            return Err(CanonFault::NoMemory);
+        };
+        match full_rays_of(alloc, k, inequalities, &list) {
             Err(fault) => Err(converted(fault)),
-            Ok(description) => {
-                let Ok(list) = prepared(alloc, k, inequalities) else {
-                    return Err(CanonFault::NoMemory);
-                };
-                let Ok(extreme) = undominated(alloc, k, &description.list, &list) else {
+            Ok(found) => {
+                let Ok(extreme) = undominated(alloc, k, &found, &list) else {
                     return Err(CanonFault::NoMemory);
                 };
                 Ok(Canon {
-                    rays: description.list,
+                    rays: found,
                     facets: extreme,
                 })
             }

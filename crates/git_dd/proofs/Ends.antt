@@ -4,7 +4,7 @@ use Rattle.std.proofs.lemmas.List.{take_all}
 use Rattle.std.proofs.lemmas.List.Elements.{All-append, All-same, All-contains}
 use Rattle.std.specs.Prelude.{All, Contains}
 use Rattle.git_defs.specs.Vectors.{Vector, HasRank}
-use Rattle.git_defs.specs.Cones.{Cut, IsPointed}
+use Rattle.git_defs.specs.Cones.{AreRays, Cut, IsPointed}
 use Rattle.git_lemmas.proofs.Members.{member_all, contained}
 use Rattle.git_geometry.specs.Stages.{Exact}
 use Rattle.git_stages.proofs.Ranks.{rank_is, rank_bound, rank_full}
@@ -75,8 +75,8 @@ module _ (k : ℕ) (given prepared base free rays rest : List Vector) (is_prepar
   pub never_at : IsNarrowTo k (take k ordered) (drop k ordered) (length ordered) → NeverWide k given
   never_at n = never_wide k given prepared base free rays rest is_prepared short p full (subst (λ (u : List Vector). IsNarrowTo k (take k u) (drop k u) (length u)) e n)
 
-  pub rays_at : (vs list : List Vector) (tight : List (List ℕ)) → Exact k ordered vs → IsSortedSet vs list → AreAllTight prepared list tight → AreRaysOf k given list tight
-  rays_at vs list tight x t a = are_rays k given prepared base free rays rest is_prepared short p full vs list tight (subst (λ (u : List Vector). Exact k u vs) e x) t a
+  pub rays_at : (vs list : List Vector) → Exact k ordered vs → IsSortedSet vs list → AreRays k (Cut k given) list
+  rays_at vs list x t = are_rays k given prepared base free rays rest is_prepared short p full vs list (subst (λ (u : List Vector). Exact k u vs) e x) t
 
   pub late_wide_fault : (f : StageFault) → IsLateStop k ordered f → IsWideFault k given f
   late_wide_fault (Wide w) stop = wide_at w.stage w.what stop

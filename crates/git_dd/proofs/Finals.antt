@@ -5,7 +5,7 @@ use Rattle.std.proofs.lemmas.List.{take_all}
 use Rattle.std.specs.Prelude.{All, Contains}
 use Rattle.std.proofs.lemmas.List.{nil_from_length}
 use Rattle.git_defs.specs.Vectors.{Vector, units, HasRank}
-use Rattle.git_defs.specs.Cones.{Cut, IsPointed, SameSet}
+use Rattle.git_defs.specs.Cones.{AreRays, Cut, IsPointed, SameSet}
 use Rattle.git_lemmas.specs.Members.{Member}
 use Rattle.git_defs.proofs.Lengths.{OfLength}
 use Rattle.git_lemmas.proofs.Members.{contains_member, all_member, contained}
@@ -146,13 +146,8 @@ module _ (k : ℕ) (given prepared base free rays rest : List Vector) (is_prepar
         i us (few_stages i us s) s;
   }
 
-  pub are_rays : (vs list : List Vector) (tight : List (List ℕ)) → Exact k ordered vs → IsSortedSet vs list → AreAllTight prepared list tight → AreRaysOf k given list tight
-  are_rays vs list tight e t tights = record {
-    rays = rays_along k (Cut k ordered) (Cut k given) list cut_ordered (rays_of_exact k ordered list (exact_members k ordered vs list (tidied_back vs list t) (tidied_to vs list t) e) t.sorted);
-    prepared = prepared;
-    is_prepared = is_prepared;
-    tight_sets = tights;
-  }
+  pub are_rays : (vs list : List Vector) → Exact k ordered vs → IsSortedSet vs list → AreRays k (Cut k given) list
+  are_rays vs list e t = rays_along k (Cut k ordered) (Cut k given) list cut_ordered (rays_of_exact k ordered list (exact_members k ordered vs list (tidied_back vs list t) (tidied_to vs list t) e) t.sorted)
 
 -- where the rank isn't less than k it is k
 pub rank_from : (k : ℕ) (given : List Vector) (n : ℕ) → OfLength k given → IsRank k given n → k ≤ n → HasRank k given

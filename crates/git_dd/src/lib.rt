@@ -11,4 +11,4 @@ pub use answers::{DdFault, Rays};
 pub use git_adjacency::{Ray, are_adjacent, first_rays, has_common};
 pub use git_elimination::StageFault;
 pub use git_stages::{WideAt, WideWhat};
-pub use listing::{full_rays, rays};
+pub use listing::{full_rays, full_rays_of, rays};

@@ -1,5 +1,6 @@
 //! The extreme vectors of a cone that inequalities cut out.
 ghost use Rattle.std.specs.Prelude.{◌≡◌, ◌≤◌, ◌<◌, ◌^◌, ◌*◌, ◌+◌, ◌++◌, [], ◌∷◌, ℕ, List, All, IfOk, IfErr, length, map, get_or, take, drop};
+ghost use Rattle.git_defs.specs.Cones.{AreRays, Cut};
 ghost use Rattle.git_defs.specs.Vectors.{Vector, HasRank};
 ghost use Rattle.git_stages.specs.Prepared.{IsPrepared};
 ghost use Rattle.git_stages.specs.Ranks.{IsRank};
@@ -7,6 +8,7 @@ ghost use Rattle.git_stages.specs.Short.{IsShort};
 ghost use Rattle.git_stages.specs.Wide.{NeverWide};
 ghost use Rattle.git_dd.specs.Answers.{AreRaysOf, IsFaultOf};
 ghost use Rattle.git_dd.specs.Converted.{IsConverted};
+ghost use Rattle.git_dd.specs.declared.answers.DdFault.{DdFault};
 ghost use Rattle.git_adjacency.specs.Marks.{IsRay, vectors};
 ghost use Rattle.git_elimination.specs.Progress.{Progress};
 ghost use Rattle.git_elimination.specs.Stops.{IsEarlyStop};
@@ -92,26 +94,26 @@ fn early(alloc: Global, k: usize, given: &[IVec], prepared: &[IVec], fault: Stag
     }
 }
 
-/// The extreme vectors, from a split of full rank.
+/// The extreme vectors in order, from a split of full rank.
 fn from_split(
     alloc: Global,
     k: usize,
     given: &[IVec],
     prepared: &[IVec],
     split: Split,
-) -> Result<Rays, StageFault>
+) -> Result<Vec<IVec>, StageFault>
     requires given { All (IsShort k) given.now }
-    requires prepared { All (IsShort k) prepared.now }
     requires is { IsPrepared given.now prepared.now }
     requires few { length prepared.now < 2 ^ 32 }
     requires progress { Progress k prepared.now (length prepared.now) split.base.items split.free.items split.rays.items split.rest.items }
     requires full { length split.base.items ≡ k }
-    ensures rays { IfOk result (λ v. AreRaysOf k given.now v.list.items (map (λ t. t.items) v.tight.items)) }
-    ensures short { IfOk result (λ v. All (IsShort k) v.list.items) }
+    ensures rays { IfOk result (λ v. AreRays k (Cut k given.now) v.items) }
+    ensures short { IfOk result (λ v. All (IsShort k) v.items) }
     ensures narrow { IfOk result (λ v. HasRank k given.now × NeverWide k given.now) }
     ensures fault { IfErr result (λ f. IsWideFault k given.now f) }
 {
     let _ = given;
+    let _ = prepared;
     let Ok(ordered) = joined(alloc, &split.base, &split.rest) else {
         return Err(StageFault::NoMemory);
     };
@@ -125,38 +127,79 @@ fn from_split(
             let Ok(vectors) = vectors_of(alloc, &more) else {
                 return Err(StageFault::NoMemory);
             };
-            let list = sorted_set(vectors);
-            let Ok(tight) = all_tight(alloc, k, prepared, &list) else {
-                return Err(StageFault::NoMemory);
-            };
-            Ok(Rays { list, tight })
+            Ok(sorted_set(vectors))
         }
     }
 }
 
-/// The extreme vectors, where k inequalities are known to be independent.
-pub fn full_rays(alloc: Global, k: usize, inequalities: &[IVec]) -> Result<Rays, StageFault>
+/// The extreme vectors in order, where k inequalities are known to be independent and all are prepared.
+pub fn full_rays_of(
+    alloc: Global,
+    k: usize,
+    inequalities: &[IVec],
+    prepared: &[IVec],
+) -> Result<Vec<IVec>, StageFault>
+    requires some { 1 ≤ k }
+    requires six { k ≤ 6 }
+    requires short { All (IsShort k) inequalities.now }
+    requires few { length prepared.now < 2 ^ 32 }
+    requires rank { HasRank k inequalities.now }
+    requires is { IsPrepared inequalities.now prepared.now }
+    ensures rays { IfOk result (λ v. AreRays k (Cut k inequalities.now) v.items) }
+    ensures short { IfOk result (λ v. All (IsShort k) v.items) }
+    ensures narrow { IfOk result (λ v. HasRank k inequalities.now × NeverWide k inequalities.now) }
+    ensures fault { IfErr result (λ f. IsWideFault k inequalities.now f) }
+{
+    match split_all(alloc, k, prepared) {
+        Err(fault) => Err(fault),
+        Ok(split) => {
+            if split.base.len() < k {
+                unreachable!()
+            }
+            from_split(alloc, k, inequalities, prepared, split)
+        }
+    }
+}
+
+/// The extreme vectors in order, where k inequalities are known to be independent.
+pub fn full_rays(alloc: Global, k: usize, inequalities: &[IVec]) -> Result<Vec<IVec>, StageFault>
     requires some { 1 ≤ k }
     requires six { k ≤ 6 }
     requires short { All (IsShort k) inequalities.now }
     requires few { length inequalities.now < 2 ^ 32 }
     requires rank { HasRank k inequalities.now }
-    ensures rays { IfOk result (λ v. AreRaysOf k inequalities.now v.list.items (map (λ t. t.items) v.tight.items)) }
-    ensures short { IfOk result (λ v. All (IsShort k) v.list.items) }
+    ensures rays { IfOk result (λ v. AreRays k (Cut k inequalities.now) v.items) }
+    ensures short { IfOk result (λ v. All (IsShort k) v.items) }
     ensures narrow { IfOk result (λ v. HasRank k inequalities.now × NeverWide k inequalities.now) }
     ensures fault { IfErr result (λ f. IsWideFault k inequalities.now f) }
 {
     let Ok(list) = prepared(alloc, k, inequalities) else {
         return Err(StageFault::NoMemory);
     };
-    match split_all(alloc, k, &list) {
-        Err(fault) => Err(fault),
-        Ok(split) => {
-            if split.base.len() < k {
-                unreachable!()
-            }
-            from_split(alloc, k, inequalities, &list, split)
-        }
+    full_rays_of(alloc, k, inequalities, &list)
+}
+
+/// The extreme vectors with the prepared inequalities at which each is 0.
+fn with_tight(
+    alloc: Global,
+    k: usize,
+    given: &[IVec],
+    prepared: &[IVec],
+    list: Vec<IVec>,
+) -> Result<Rays, DdFault>
+    requires prepared { All (IsShort k) prepared.now }
+    requires is { IsPrepared given.now prepared.now }
+    requires few { length prepared.now < 2 ^ 32 }
+    requires rays { AreRays k (Cut k given.now) list.items }
+    requires short { All (IsShort k) list.items }
+    ensures rays { IfOk result (λ v. AreRaysOf k given.now v.list.items (map (λ t. t.items) v.tight.items)) }
+    ensures short { IfOk result (λ v. All (IsShort k) v.list.items) }
+    ensures fault { IfErr result (λ f. f ≡ DdFault.NoMemory) }
+{
+    let _ = given;
+    match all_tight(alloc, k, prepared, &list) {
+        Ok(tight) => Ok(Rays { list, tight }),
+        Err(_) => Err(DdFault::NoMemory),
     }
 }
 
@@ -183,7 +226,7 @@ pub fn rays(alloc: Global, k: usize, inequalities: &[IVec]) -> Result<Rays, DdFa
                 });
             }
             match from_split(alloc, k, inequalities, &list, split) {
-                Ok(found) => Ok(found),
+                Ok(found) => with_tight(alloc, k, inequalities, &list, found),
                 Err(fault) => Err(converted(fault)),
             }
         }

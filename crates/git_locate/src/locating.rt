@@ -34,7 +34,7 @@ fn common_rays(alloc: Global, cones: &Cones, sig: &Sig) -> Result<Vec<IVec>, Loc
         return Err(LocateFault::NoMemory);
     };
     match full_rays(alloc, cones.k, &inequalities) {
-        Ok(found) => Ok(found.list),
+        Ok(found) => Ok(found),
         Err(StageFault::Wide(at)) => Err(LocateFault::Wide(at)),
         Err(StageFault::NoMemory) => Err(LocateFault::NoMemory),
     }

@@ -16,8 +16,8 @@ is_face_of-requires-clause-common c =
     let R = c.args.one.now.rays.items in let S = c.args.other.now.rays.items in
     let A = c.args.one.now.facets.items in let B = c.args.other.now.facets.items in let k = c.args.k in
     let both : c.deref-3.result.now ≡ A ++ B = c.deref-3.ensures.value ∙ c.in-Ok.ensures ∙ (λ i. c.deref.ensures.value i ++ c.deref-2.ensures.value i) in
-    let E = c.in-Ok-full_rays.common.list.items in
-    let rays : AreRays k (Cut k (A ++ B)) E = subst (λ (u : List Vector). AreRays k (Cut k u) E) both c.in-Ok-full_rays.ensures.rays.rays in
+    let E = c.in-Ok-full_rays.common.items in
+    let rays : AreRays k (Cut k (A ++ B)) E = subst (λ (u : List Vector). AreRays k (Cut k u) E) both c.in-Ok-full_rays.ensures.rays in
     subst (AreRays k (InBoth (InCone k R) (InCone k S))) (sym c.deref-in-Ok-full_rays.ensures.value)
     (common_rays k R A S B E c.requires.one.full c.requires.other.full rays)
 
@@ -26,8 +26,8 @@ is_face_of-requires-in-Ok-full_rays-clause-common c =
     let R = c.args.one.now.rays.items in let S = c.args.other.now.rays.items in
     let A = c.args.one.now.facets.items in let B = c.args.other.now.facets.items in let k = c.args.k in
     let both : c.deref-3.result.now ≡ A ++ B = c.deref-3.ensures.value ∙ c.in-Ok.ensures ∙ (λ i. c.deref.ensures.value i ++ c.deref-2.ensures.value i) in
-    let E = c.in-Ok-full_rays.common.list.items in
-    let rays : AreRays k (Cut k (A ++ B)) E = subst (λ (u : List Vector). AreRays k (Cut k u) E) both c.in-Ok-full_rays.ensures.rays.rays in
+    let E = c.in-Ok-full_rays.common.items in
+    let rays : AreRays k (Cut k (A ++ B)) E = subst (λ (u : List Vector). AreRays k (Cut k u) E) both c.in-Ok-full_rays.ensures.rays in
     subst (AreRays k (InBoth (InCone k S) (InCone k R))) (sym c.deref-in-Ok-full_rays-2.ensures.value)
     (turned_rays k (InCone k R) (InCone k S) E (common_rays k R A S B E c.requires.one.full c.requires.other.full rays))
 

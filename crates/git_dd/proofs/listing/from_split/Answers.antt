@@ -45,16 +45,6 @@ returns-in-Err-clause-fault c =
     let e : O ≡ B ++ T = c.deref-5.ensures.value ∙ c.in-Ok.ensures ∙ (λ i. c.deref.ensures.value i ++ c.deref-2.ensures.value i) in
     late_wide_fault k G P B F R T c.requires.is c.requires.given c.requires.progress c.requires.full O e c.in-Err.fault c.in-Err.ensures.wide
 
-pub all_tight-requires-clause-list : goal.all_tight-requires-clause-list
-all_tight-requires-clause-list c =
-    let s = c.args.split in let k = c.args.k in let G = c.args.given.now in let P = c.args.prepared.now in let O = c.deref-5.result.now in
-    let B = s.base.items in let F = s.free.items in let R = s.rays.items in let T = s.rest.items in
-    let e : O ≡ B ++ T = c.deref-5.ensures.value ∙ c.in-Ok.ensures ∙ (λ i. c.deref.ensures.value i ++ c.deref-2.ensures.value i) in
-    let M = c.in-Ok-extended.more.items in
-    let V = c.in-Ok-vectors_of.ensures ∙ ap vectors c.deref-in-Ok-extended.ensures.value in
-    let tidy : IsSortedSet (vectors M) c.sorted_set-list.result.items = subst (λ (u : List Vector). IsSortedSet u c.sorted_set-list.result.items) V c.sorted_set-list.ensures.sorted in
-    subst (λ (u : List Vector). All (IsShort k) u) (sym c.deref-in-Ok-extended-2.ensures.value) (list_short k O _ M c.sorted_set-list.result.items c.in-Ok-extended.ensures.rays tidy)
-
 pub returns-clause-short : goal.returns-clause-short
 returns-clause-short c =
     let s = c.args.split in let k = c.args.k in let G = c.args.given.now in let P = c.args.prepared.now in let O = c.deref-5.result.now in
@@ -62,8 +52,8 @@ returns-clause-short c =
     let e : O ≡ B ++ T = c.deref-5.ensures.value ∙ c.in-Ok.ensures ∙ (λ i. c.deref.ensures.value i ++ c.deref-2.ensures.value i) in
     let M = c.in-Ok-extended.more.items in
     let V = c.in-Ok-vectors_of.ensures ∙ ap vectors c.deref-in-Ok-extended.ensures.value in
-    let tidy : IsSortedSet (vectors M) c.sorted_set-list.result.items = subst (λ (u : List Vector). IsSortedSet u c.sorted_set-list.result.items) V c.sorted_set-list.ensures.sorted in
-    list_short k O _ M c.sorted_set-list.result.items c.in-Ok-extended.ensures.rays tidy
+    let tidy : IsSortedSet (vectors M) c.sorted_set.result.items = subst (λ (u : List Vector). IsSortedSet u c.sorted_set.result.items) V c.sorted_set.ensures.sorted in
+    list_short k O _ M c.sorted_set.result.items c.in-Ok-extended.ensures.rays tidy
 
 pub returns-clause-rays : goal.returns-clause-rays
 returns-clause-rays c =
@@ -72,9 +62,8 @@ returns-clause-rays c =
     let e : O ≡ B ++ T = c.deref-5.ensures.value ∙ c.in-Ok.ensures ∙ (λ i. c.deref.ensures.value i ++ c.deref-2.ensures.value i) in
     let M = c.in-Ok-extended.more.items in
     let V = c.in-Ok-vectors_of.ensures ∙ ap vectors c.deref-in-Ok-extended.ensures.value in
-    let tidy : IsSortedSet (vectors M) c.sorted_set-list.result.items = subst (λ (u : List Vector). IsSortedSet u c.sorted_set-list.result.items) V c.sorted_set-list.ensures.sorted in
-    let tights = subst (λ (u : List Vector). AreAllTight P u (map (λ (t : Vec ℕ Global). t.items) c.in-Ok-all_tight.tight.items)) c.deref-in-Ok-extended-2.ensures.value c.in-Ok-all_tight.ensures in
-    rays_at k G P B F R T c.requires.is c.requires.given c.requires.progress c.requires.full O e (vectors M) c.sorted_set-list.result.items (map (λ (t : Vec ℕ Global). t.items) c.in-Ok-all_tight.tight.items) c.in-Ok-extended.ensures.exact tidy tights
+    let tidy : IsSortedSet (vectors M) c.sorted_set.result.items = subst (λ (u : List Vector). IsSortedSet u c.sorted_set.result.items) V c.sorted_set.ensures.sorted in
+    rays_at k G P B F R T c.requires.is c.requires.given c.requires.progress c.requires.full O e (vectors M) c.sorted_set.result.items c.in-Ok-extended.ensures.exact tidy
 
 pub returns-clause-narrow : goal.returns-clause-narrow
 returns-clause-narrow c =

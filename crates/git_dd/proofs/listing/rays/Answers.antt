@@ -21,8 +21,8 @@ returns-then-len-k-clause-fault c =
     let e : length s.base.items ≡ c.len-then-len-k.result = omega (arith, c.len-then-len-k.ensures, s.base.ok.0) in
     (subst (IsRank k c.args.inequalities.now) e r, omega (arith, e, c.if-len-k.true, c.len.ensures, s.base.ok.0))
 
-pub from_split-requires-clause-prepared : goal.from_split-requires-clause-prepared
-from_split-requires-clause-prepared c = subst (λ (u : List Vector). All (IsShort c.args.k) u) (sym c.deref-in-Ok-split_all.ensures.value) (prepared_short c.args.k c.args.inequalities.now c.in-Ok.list.items c.in-Ok.ensures.prepared c.requires.short)
+pub with_tight-requires-clause-prepared : goal.with_tight-requires-clause-prepared
+with_tight-requires-clause-prepared c = subst (λ (u : List Vector). All (IsShort c.args.k) u) (sym c.deref-in-Ok-from_split.ensures.value) (prepared_short c.args.k c.args.inequalities.now c.in-Ok.list.items c.in-Ok.ensures.prepared c.requires.short)
 
 pub from_split-requires-clause-few : goal.from_split-requires-clause-few
 from_split-requires-clause-few c = let e = ap length c.deref-in-Ok-split_all.ensures.value in let f = c.in-Ok.ensures.size in let g = c.requires.few in omega (arith, e, f, g)

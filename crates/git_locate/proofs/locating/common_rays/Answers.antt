@@ -14,9 +14,9 @@ returns-in-Ok-full_rays-clause-rays c =
     let fan = c.args.cones.now in
     let sig = c.args.sig.now in
     let walls = c.in-Ok.inequalities.items in
-    let found = c.in-Ok-full_rays.found.list.items in
+    let found = c.in-Ok-full_rays.found.items in
     let same : c.cones.inside.k ≡ fan.k = ap (λ (f : Fan). f.k) c.cones.view_is in
-    let here = subst (λ (k : ℕ). AreRays k (Cut k c.deref.result.now) found) same c.in-Ok-full_rays.ensures.rays.rays in
+    let here = subst (λ (k : ℕ). AreRays k (Cut k c.deref.result.now) found) same c.in-Ok-full_rays.ensures.rays in
     let rays : AreRays fan.k (Cut fan.k walls) found = subst (λ (u : List Vector). AreRays fan.k (Cut fan.k u) found) c.deref.ensures.value here in
     rays_along fan.k (Cut fan.k walls) (InChamber fan sig) found (walls_cut fan sig (fan_seen c.cones.view_is c.cones.invariant.fan) c.requires walls c.in-Ok.ensures.walls) rays
 
