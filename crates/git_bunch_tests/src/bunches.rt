@@ -62,6 +62,38 @@ wall
 end
 ";
 
+/// Three cones: that of all five columns, that of the first three, which is the first chamber, and that of the last three,
+/// which crosses a wall of it and has the wall's middle as a ray.
+const CROSSED: &[u8] = b"gitfan 1
+grading 3 5
+-4 1 0 0 2
+0 0 2 0 -1
+4 1 2 1 1
+ideal 8
+T(1)^2*T(2)^4*T(4)-T(1)*T(4)^9
+T(1)*T(2)^5*T(4)-T(2)*T(4)^9
+T(1)^2*T(2)^4*T(5)-T(1)*T(4)^8*T(5)
+T(1)*T(2)^5*T(5)-T(2)*T(4)^8*T(5)
+T(1)*T(3)*T(4)*T(5)^2-T(1)*T(2)^4*T(4)
+T(2)*T(3)*T(4)*T(5)^2-T(2)^5*T(4)
+T(1)*T(3)*T(5)^3-T(1)*T(2)^4*T(5)
+T(2)*T(3)*T(5)^3-T(2)^5*T(5)
+end
+";
+
+const CROSSED_TEXT: &[u8] = b"gitfan-bunch 1
+chambers 2
+chamber 1
+minimal 7
+facet 0 1 0 inner 2
+lost 7
+gained
+wall 28
+chamber 2
+minimal 31
+end
+";
+
 fn input(alloc: Global, bytes: &[u8]) -> Result<Option<Input>, Fail> {
     if 4096 < bytes.len() {
         return Ok(None);
@@ -72,10 +104,11 @@ fn input(alloc: Global, bytes: &[u8]) -> Result<Option<Input>, Fail> {
 #[test]
 fn bunches_are_those_worked_by_hand(rt: HostRuntime) -> Result<(), Fail> {
     let alloc = rt.alloc();
-    let rows: [(&str, &[u8], u32, Status, &[u8]); 4] = [
+    let rows: [(&str, &[u8], u32, Status, &[u8]); 5] = [
         ("bunch-of-two", PLANE, 65536, Status::Done, PLANE_TEXT),
         ("bunch-of-one", QUADRIC, 65536, Status::Done, QUADRIC_TEXT),
         ("doubled-column", DOUBLED, 65536, Status::Done, DOUBLED_TEXT),
+        ("face-of-a-wall", CROSSED, 65536, Status::Done, CROSSED_TEXT),
         ("small-table", PLANE, 1, Status::Full, b"refused full 1\n"),
     ];
     for (name, bytes, table, status, text) in rows {
@@ -103,7 +136,7 @@ fn number(cones: &Cones, g: &Grading, mask: u16) -> Option<u32> {
 #[test]
 fn faces_have_the_numbers_of_their_cones(rt: HostRuntime) -> Result<(), Fail> {
     let alloc = rt.alloc();
-    let rows: [(&str, &[u8], u16, Option<u32>); 8] = [
+    let rows: [(&str, &[u8], u16, Option<u32>); 9] = [
         ("the whole cone by two columns", PLANE, 5, Some(0)),
         ("the whole cone by all columns", PLANE, 7, Some(0)),
         ("the upper half", PLANE, 6, Some(1)),
@@ -115,6 +148,7 @@ fn faces_have_the_numbers_of_their_cones(rt: HostRuntime) -> Result<(), Fail> {
             Some(0),
         ),
         ("the cone of no a-face", QUADRIC, 6, None),
+        ("a cone across a wall", CROSSED, 28, Some(1)),
         ("a ray", PLANE, 1, None),
         ("no column", PLANE, 0, None),
     ];
