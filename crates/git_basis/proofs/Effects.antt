@@ -1,5 +1,5 @@
 -- The polynomials of Take and Cancel are those of the criterion and of division.
-use Rattle.std.proofs.Common.{ℕ, ◌*◌, ◌%◌, ◌<◌, ◌≡◌, refl, [], ◌∷◌, Some, sym, ◌∙◌, ap, arith}
+use Rattle.std.proofs.Common.{ℕ, ◌*◌, ◌%◌, ◌≡◌, refl, Some, sym, ◌∙◌, ap, arith}
 use Rattle.std.specs.Prelude.{◌≢◌}
 use Rattle.std.proofs.lemmas.Nat.{mul-mod_first}
 use Rattle.git_field.proofs.Inverses.{inverse_of, product-inverse_of}

@@ -1,5 +1,5 @@
 -- How a run stops, step by step.
-use Rattle.std.proofs.Common.{ℕ, suc, ◌+◌, ◌<◌, ◌≤◌, ◌≡◌, refl, List, [], ◌∷◌, ◌++◌, length, Some, sym, ◌∙◌, ap, subst, arith, inl}
+use Rattle.std.proofs.Common.{ℕ, suc, ◌+◌, ◌≤◌, ◌≡◌, refl, List, [], ◌∷◌, ◌++◌, length, Some, sym, ◌∙◌, ap, subst, arith, inl}
 use Rattle.git_basis.specs.Elements.{Element}
 use Rattle.git_basis.specs.Run.{State, IsMade, IsRun, HasUnit, after, effect, or_nothing}
 use Rattle.git_basis.specs.declared.step.Step.{Step}

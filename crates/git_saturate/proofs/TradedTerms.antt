@@ -3,21 +3,18 @@ use Rattle.std.proofs.Common.{ℕ, zero, suc, ◌+◌, ◌-◌, ◌<◌, ◌≤�
 use Rattle.std.specs.Prelude.{◌≢◌, max, slice_get}
 use Rattle.std.proofs.lemmas.Bool.{cases_eq}
 use Rattle.std.proofs.Math.Seq.{drop-cons}
-use Rattle.std.proofs.lemmas.List.{take_more, take_all}
-use Rattle.std.proofs.lemmas.Option.{slice_get_within, get_or_from_slice_get}
+use Rattle.std.proofs.lemmas.List.{take_more}
 use Rattle.git_algebra.specs.Exponents.{Exponents, exponent, times, quotient, power, variable_power, Divides}
 use Rattle.git_algebra.specs.Sums.{Sum}
-use Rattle.git_algebra.specs.Polynomials.{Polynomial, normal}
-use Rattle.git_algebra.specs.Operations.{zero_polynomial, term_of, plus, restricted, lead_of}
+use Rattle.git_algebra.specs.Polynomials.{Polynomial}
+use Rattle.git_algebra.specs.Operations.{zero_polynomial, restricted, lead_of}
 use Rattle.git_algebra.proofs.Monomials.{same_exponents, exponent-quotient, exponent_same, exponent_other, divides_exactly}
-use Rattle.git_algebra.proofs.Congruence.{alike-append}
-use Rattle.git_algebra.proofs.Normal.{normal_alike, same_normal}
-use Rattle.git_ideals.specs.Extra.{extra, without_extra, traded, mapped}
+use Rattle.git_ideals.specs.Extra.{extra, without_extra, traded}
 use Rattle.git_ideals.proofs.ExtraExponents.{without_there, without_elsewhere}
 use Rattle.git_ideals.proofs.Divisions.{zero_has_no_lead}
 use Rattle.git_basis.proofs.Numbers.{top_of}
 use Rattle.git_saturate.specs.Starts.{kept_by, nonzero_part}
-use Rattle.git_saturate.specs.Traded.{traded_polynomial, greatest_extra, greatest_extra_of, spread_here, spread}
+use Rattle.git_saturate.specs.Traded.{greatest_extra, greatest_extra_of, spread_here, spread}
 use Rattle.git_reduce.proofs.TermMaps.{take_next}
 
 -- the extra variable's power divides, and the quotient is without it
