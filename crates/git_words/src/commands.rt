@@ -42,4 +42,10 @@ pub enum Command {
         sample: Sample,
         run: bool,
     },
+    /// All cones of the chambers, and whether these form a fan: the most signatures, and the most steps of each
+    /// face's run.
+    AllCones {
+        table: u32,
+        steps: u64,
+    },
 }
