@@ -9,7 +9,7 @@ use Rattle.git_text.specs.Grammar.{IsInput}
 use Rattle.git_make.specs.Samples.{IsSample}
 use Rattle.git_words.specs.declared.commands.Sample.{Sample}
 use Rattle.git_words.specs.declared.commands.Command.{Command}
-use Rattle.git_words.specs.declared.commands.Command.TheVariants.{Fan, Faces, Make}
+use Rattle.git_words.specs.declared.commands.Command.TheVariants.{Fan, Faces, Make, AllCones}
 use Rattle.git_replies.specs.Cases.{Outcome, says}
 use Rattle.git_replies.specs.Reads.{reads}
 use Rattle.git_replies.specs.Readings.{IsReading}
@@ -25,11 +25,13 @@ pub reads_answers : (c : Command) (bytes : List ℕ) (o : Outcome) → Reads c �
 reads_answers (Fan workers table steps certs) bytes o reading a = a
 reads_answers (Faces steps) bytes o reading a = a
 reads_answers (Make sample run) bytes o reading a = absurd reading
+reads_answers (AllCones table steps) bytes o reading a = a
 
 input_told : (c : Command) (bytes : List ℕ) (v : InputValue) → Reads c → IsInput bytes v → InputOf c bytes v
 input_told (Fan workers table steps certs) bytes v reading is = is
 input_told (Faces steps) bytes v reading is = is
 input_told (Make sample run) bytes v reading is = absurd reading
+input_told (AllCones table steps) bytes v reading is = is
 
 -- the bytes are an input
 pub read_replied : (c : Command) (bytes : List ℕ) (v : InputValue) (s : Status) (text : List ℕ) → Reads c → length bytes ≤ INPUT_BYTES → IsInput bytes v → spelled v (cases_of c v) s text → reply_of c bytes s text

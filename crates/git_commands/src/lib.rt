@@ -6,4 +6,4 @@ mod calls;
 mod faces;
 mod sampling;
 
-pub use calls::{faces_run, fan_crew, fan_plain, make_run, write_text};
+pub use calls::{cones_run, faces_run, fan_crew, fan_plain, make_run, write_text};

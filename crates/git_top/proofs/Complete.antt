@@ -13,8 +13,10 @@ use Rattle.git_answers.specs.Verdicts.{whole_face}
 use Rattle.git_base.specs.declared.status.Status.TheVariants.{Done}
 use Rattle.git_grading.specs.Gradings.{IsGrading}
 use Rattle.git_make.proofs.Inputs.{one_input, samples_are_inputs}
+use Rattle.git_cone_replies.specs.ConeCases.{judges, tells, too_many, wide_pair}
+use Rattle.git_questions.specs.Questions.{all_cones_of, tells_cones}
 use Rattle.git_commands.specs.Commands.{output_of, sample_options}
-use Rattle.git_top.specs.Laws.{FacesAreDone, InputsAreDone, NothingRefuses, SamplesAreDone}
+use Rattle.git_top.specs.Laws.{ConesAreDone, FacesAreDone, InputsAreDone, NothingRefuses, SamplesAreDone}
 use Rattle.git_fan.proofs.NotGood.{written_done}
 use Rattle.git_answers.proofs.OneFan.{whole_full}
 use Rattle.git_fan.proofs.Opens.{neither}
@@ -43,6 +45,15 @@ pub inputs_are_done : InputsAreDone
 inputs_are_done workers table steps certs bytes v o few is none h =
     let n : Options = options table steps in
     fan_done v n (output_of certs) o (text_is_a_grading is.matrix_lines v.degrees is.matrix) none (reads_input (fan_of n (output_of certs)) bytes v o few is h)
+
+pub cones_are_done : ConesAreDone
+cones_are_done table steps bytes v o few is none have h =
+    let n : Options = options table steps in
+    let l = later (refuses n v) (lists tells_cones v) o (nothing_refused v n (text_is_a_grading is.matrix_lines v.degrees is.matrix) none) (reads_input (all_cones_of n) bytes v o few is h) in
+    let passed = have l.0 l.1 l.2 in
+    let judged = later (too_many l.1) (judges l.1) o passed.0 l.3 in
+    let told = later (wide_pair l.1) (tells l.1) o passed.1 judged in
+    ap (λ (p : Outcome). p.status) told.4
 
 pub samples_are_done : SamplesAreDone
 samples_are_done sample bytes v o range is = record {

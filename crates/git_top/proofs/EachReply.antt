@@ -18,6 +18,7 @@ use Rattle.git_faces.specs.FullFaces.{AreFullFaces}
 use Rattle.git_faces.proofs.FullLists.{some as full_list}
 use Rattle.git_faces.proofs.FirstStops.{some as first_or_all}
 use Rattle.git_faces.proofs.Certified.{certified}
+use Rattle.git_orbit.specs.Orbits.{Fan}
 use Rattle.git_listing.specs.Listings.{Listing}
 use Rattle.git_machine.specs.Signatures.{Signature}
 use Rattle.git_chamber.specs.declared.cell.Cell.{Cell}
@@ -29,7 +30,7 @@ use Rattle.git_text.proofs.GeneratorLines.{are_generators}
 use Rattle.git_words.specs.Words.{IsCommand}
 use Rattle.git_words.specs.Laws.{IsInRange}
 use Rattle.git_words.specs.declared.commands.Command.{Command}
-use Rattle.git_words.specs.declared.commands.Command.TheVariants.{Fan, Faces, Make}
+use Rattle.git_words.specs.declared.commands.Command.TheVariants as command
 use Rattle.git_words.proofs.OneCommand.{commands_are_in_range}
 use Rattle.git_make.proofs.Inputs.{samples_are_inputs}
 use Rattle.git_replies.specs.Cases.{Case, Tail, nothing, Outcome, Passes, says, ◌otherwise◌}
@@ -38,11 +39,13 @@ use Rattle.git_replies.specs.Reads.{reads}
 use Rattle.git_answers.specs.Ends.{IsTailOf}
 use Rattle.git_answers.specs.Verdicts.{IsFullFace, IsVerdict, AreVerdicts, IsTail, whole_face}
 use Rattle.git_answers.specs.Faces.{face_stops, faces_of}
-use Rattle.git_answers.specs.Fan.{Options, options, written, Refuses, has_monomial, whole_stops, not_good, after_cones, after_verdicts, after_whole, refuses, fan_of}
+use Rattle.git_answers.specs.Fan.{Options, options, written, Refuses, has_monomial, whole_stops, not_good, after_cones, after_verdicts, after_whole, refuses, listed_then, fan_of}
 use Rattle.git_answers.specs.declared.output.Output.{Output}
 use Rattle.git_answers.specs.declared.output.Output.TheVariants.{Plain, Certified, Counted}
 use Rattle.git_answers.proofs.OneFan.{whole_full}
 use Rattle.git_fan.proofs.FullFaces.{first_full}
+use Rattle.git_questions.specs.Questions.{tells_cones}
+use Rattle.git_questions.proofs.AllCones.{cones_bare}
 use Rattle.git_commands.specs.Commands.{cases_of, output_of, sample_options, InputOf, command_answer}
 use Rattle.git_top.specs.Run.{answer_to, InputFor}
 use Rattle.git_top.specs.Laws.{EachHasAReply}
@@ -168,16 +171,22 @@ module _ (v : InputValue) where
     written_tail Certified l p = certified_tail n.steps few g gens (runs_end p)
     written_tail Counted l p = ([], refl)
 
+    -- of a listing something is told with no certificates
+    listed_tail : (of_listing : Fan → Listing → Case) (o : Outcome) → ((fan : Fan) (l : Listing) → of_listing fan l o → o.tail ≡ nothing) → listed_then n of_listing v o → HasTail o.tail
+    listed_tail of_listing o bare (inl refused) = refuses_tail o refused
+    listed_tail of_listing o bare (inr (p, l)) = subst HasTail (sym (bare l.0 l.1 l.3)) ([], refl)
+
     fan_tail : (output : Output) (o : Outcome) → fan_of n output v o → HasTail o.tail
     fan_tail output o (inl refused) = refuses_tail o refused
     fan_tail output o (inr (p, l)) = along o (written output l.1) l.3 (written_tail output l.1 p)
 
 -- ---- commands
 cases_tail : (c : Command) (v : InputValue) (o : Outcome) → IsInRange c → IsGrading v.degrees.k v.degrees.columns → AreGenerators v.degrees v.generators → cases_of c v o → HasTail v o.tail
-cases_tail (Fan workers table steps certs) v o range g gens h = fan_tail v (options table steps) range.5 g gens (output_of certs) o h
-cases_tail (Faces steps) v o range g gens h = faces_tail v steps range.1 g gens o h
-cases_tail (Make sample false) v o range g gens h = none v o _ _ h
-cases_tail (Make sample true) v o range g gens h = fan_tail v sample_options (omega arith) g gens Counted o h
+cases_tail (command.Fan workers table steps certs) v o range g gens h = fan_tail v (options table steps) range.5 g gens (output_of certs) o h
+cases_tail (command.Faces steps) v o range g gens h = faces_tail v steps range.1 g gens o h
+cases_tail (command.Make sample false) v o range g gens h = none v o _ _ h
+cases_tail (command.Make sample true) v o range g gens h = fan_tail v sample_options (omega arith) g gens Counted o h
+cases_tail (command.AllCones table steps) v o range g gens h = listed_tail v (options table steps) range.3 g gens tells_cones o (λ fan l is. cones_bare l o is) h
 
 module _ (words : List (List ℕ)) (bytes : List ℕ) where
   abbrev HasTold : Tail → Type 0
@@ -198,12 +207,13 @@ module _ (words : List (List ℕ)) (bytes : List ℕ) where
       (text_is_a_grading i.matrix_lines h.0.degrees i.matrix) (are_generators h.0.degrees i.ideal i.polynomials h.0.generators i.ideal_is i.polynomials_are) h.2)
 
   command_told : (c : Command) (o : Outcome) → IsCommand words c → command_answer c bytes o → HasTold o.tail
-  command_told (Fan workers table steps certs) o is h = read_told (Fan workers table steps certs) o is (λ v i. i) h
-  command_told (Faces steps) o is h = read_told (Faces steps) o is (λ v i. i) h
-  command_told (Make sample run) o is h =
-      let range = commands_are_in_range words (Make sample run) is in
+  command_told (command.Fan workers table steps certs) o is h = read_told (command.Fan workers table steps certs) o is (λ v i. i) h
+  command_told (command.Faces steps) o is h = read_told (command.Faces steps) o is (λ v i. i) h
+  command_told (command.AllCones table steps) o is h = read_told (command.AllCones table steps) o is (λ v i. i) h
+  command_told (command.Make sample run) o is h =
+      let range = commands_are_in_range words (command.Make sample run) is in
       let input = samples_are_inputs sample h.0 range h.1 in
-      input_told (Make sample run) h.0 o is h.1 (cases_tail (Make sample run) h.0 o range input.0 input.1 h.2)
+      input_told (command.Make sample run) h.0 o is h.1 (cases_tail (command.Make sample run) h.0 o range input.0 input.1 h.2)
 
   answer_told : (o : Outcome) → answer_to words bytes o → HasTold o.tail
   answer_told o (inl none) = none_told o _ _ none.1

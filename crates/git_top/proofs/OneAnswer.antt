@@ -36,6 +36,8 @@ use Rattle.git_words.proofs.OneCommand.{one_command}
 use Rattle.git_make.specs.Samples.{IsSample}
 use Rattle.git_make.proofs.Inputs.{one_input}
 use Rattle.git_text.specs.Writing.{input_text}
+use Rattle.git_cone_replies.proofs.AllAnswers.{one_answered}
+use Rattle.git_questions.specs.Questions.{tells_cones}
 use Rattle.git_commands.specs.Commands.{cases_of, output_of, sample_options, command_answer}
 use Rattle.git_top.specs.Run.{no_command}
 use Rattle.git_top.specs.Laws.{OneAnswer}
@@ -122,10 +124,12 @@ cases_one (command.Fan workers table steps certs) v = fan_one v (options table s
 cases_one (command.Faces steps) v = faces_one v steps
 cases_one (command.Make sample false) v = one_is (says status.Done (input_text v))
 cases_one (command.Make sample true) v = fan_one v sample_options Counted
+cases_one (command.AllCones table steps) v = listed_one v (options table steps) tells_cones (λ fan l is. one_answered l)
 
 command_one : (c : Command) (bytes : List ℕ) → HasOne (command_answer c bytes)
 command_one (command.Fan workers table steps certs) bytes = reads_one (cases_of (command.Fan workers table steps certs)) bytes (λ v is. cases_one (command.Fan workers table steps certs) v)
 command_one (command.Faces steps) bytes = reads_one (cases_of (command.Faces steps)) bytes (λ v is. cases_one (command.Faces steps) v)
+command_one (command.AllCones table steps) bytes = reads_one (cases_of (command.AllCones table steps)) bytes (λ v is. cases_one (command.AllCones table steps) v)
 command_one (command.Make sample run) bytes = one_by (IsSample sample) (cases_of (command.Make sample run)) (one_input sample) (λ v. cases_one (command.Make sample run) v)
 
 pub one_answer : OneAnswer

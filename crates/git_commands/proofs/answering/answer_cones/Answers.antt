@@ -1,0 +1,13 @@
+use Rattle.std.proofs.Common.{subst}
+use Rattle.git_words.specs.declared.commands.Command.TheVariants.{AllCones}
+use Rattle.git_replies.specs.Readings.{IsReading}
+use Rattle.git_commands.proofs.Replied.{refused_replied, input_answered}
+use Rattle.git_commands.proofs.answering.answer_cones.Goals as goal
+
+pub returns-in-Refused-clause-answers : goal.returns-in-Refused-clause-answers
+returns-in-Refused-clause-answers g c =
+    refused_replied (AllCones c.args.table c.args.steps) (g.S.Source.left c.args.source.now) c.in-Refused.reply tt (subst (IsReading (g.S.Source.left c.args.source.now)) c.in-Refused.is c.in_ok-reply.ensures.reading)
+
+pub returns-in_ok-cones_answer-in-Input-clause-answers : goal.returns-in_ok-cones_answer-in-Input-clause-answers
+returns-in_ok-cones_answer-in-Input-clause-answers g c =
+    input_answered (AllCones c.args.table c.args.steps) (g.S.Source.left c.args.source.now) c.in-Input.input _ _ tt (subst (IsReading (g.S.Source.left c.args.source.now)) c.in-Input.is c.in_ok-reply.ensures.reading) c.in_ok-cones_answer-in-Input.ensures

@@ -1,0 +1,3 @@
+pub mod Chambers
+pub mod Told
+pub mod AllCones
