@@ -11,7 +11,7 @@ fn count_feeds(bytes: &[u8]) -> usize
 }
 
 /// How many lines the bytes have: as many as line feeds, and one more where bytes follow the last of these.
-pub(crate) fn count_lines(bytes: &[u8]) -> u64
+pub fn count_lines(bytes: &[u8]) -> u64
     ensures lines { result ≡ length (lines_of bytes.now) }
     ensures few { result ≤ length bytes.now }
 {

@@ -9,6 +9,7 @@ mod reading;
 mod refusals;
 mod text;
 
+pub use counting::count_lines;
 pub use limits::TEXT_BYTES;
 pub use reading::{TextReading, read, read_check_text};
 pub use refusals::{certs_refusal, listing_refusal};

@@ -1,0 +1,5 @@
+pub use Rattle.git_answers.specs.Ends
+pub use Rattle.git_answers.specs.Fan
+pub mod WeightLines
+pub mod WeightCases
+pub mod Laws
