@@ -1,0 +1,3 @@
+pub mod CheckLines
+pub mod CheckCases
+pub mod Laws
