@@ -4,7 +4,7 @@ use Rattle.std.specs.Prelude.{codes, IfSome}
 use Rattle.git_words.specs.declared.commands.Sample.{Sample}
 use Rattle.git_words.specs.declared.commands.Sample.TheVariants.{Points, Plucker}
 use Rattle.git_words.specs.declared.commands.Command.{Command}
-use Rattle.git_words.specs.declared.commands.Command.TheVariants.{Fan, Faces, Make, AllCones}
+use Rattle.git_words.specs.declared.commands.Command.TheVariants.{Fan, Faces, Make, AllCones, Locate, Check}
 use Rattle.git_words.specs.declared.commands.TheConstants.{WORKERS, TABLE, STEPS, WORKERS_UNSET, TABLE_UNSET, STEPS_UNSET}
 use Rattle.git_words.specs.declared.settings.Setting.{Setting}
 use Rattle.git_words.specs.declared.settings.Setting.TheVariants.{Workers, Table, Steps, Certs}
@@ -34,24 +34,48 @@ fan_only (Fan w t s certs) rest same h = (w, t, s, certs, refl, h)
 fan_only (Faces n) rest same h = let e = marks _ _ same in absurd (omega (arith, e))
 fan_only (Make s run) rest same h = let e = marks _ _ same in absurd (omega (arith, e))
 fan_only (AllCones t s) rest same h = let e = marks _ _ same in absurd (omega (arith, e))
+fan_only (Locate t s) rest same h = let e = marks _ _ same in absurd (omega (arith, e))
+fan_only Check rest same h = let e = marks _ _ same in absurd (omega (arith, e))
 
 faces_only : (d : Command) (rest : List (List ℕ)) → command_word d ≡ codes "faces" → IsCommandAfter d rest → (n : ℕ) × (d ≡ Faces n) × IsFaces rest n
 faces_only (Fan w t s certs) rest same h = let e = marks _ _ same in absurd (omega (arith, e))
 faces_only (Faces n) rest same h = (n, refl, h)
 faces_only (Make s run) rest same h = let e = marks _ _ same in absurd (omega (arith, e))
 faces_only (AllCones t s) rest same h = let e = marks _ _ same in absurd (omega (arith, e))
+faces_only (Locate t s) rest same h = let e = marks _ _ same in absurd (omega (arith, e))
+faces_only Check rest same h = let e = marks _ _ same in absurd (omega (arith, e))
 
 make_only : (d : Command) (rest : List (List ℕ)) → command_word d ≡ codes "make" → IsCommandAfter d rest → (s : Sample) × (run : Bool) × (d ≡ Make s run) × IsMake rest s run
 make_only (Fan w t s certs) rest same h = let e = marks _ _ same in absurd (omega (arith, e))
 make_only (Faces n) rest same h = let e = marks _ _ same in absurd (omega (arith, e))
 make_only (Make s run) rest same h = (s, run, refl, h)
 make_only (AllCones t s) rest same h = let e = marks _ _ same in absurd (omega (arith, e))
+make_only (Locate t s) rest same h = let e = marks _ _ same in absurd (omega (arith, e))
+make_only Check rest same h = let e = marks _ _ same in absurd (omega (arith, e))
 
 cones_only : (d : Command) (rest : List (List ℕ)) → command_word d ≡ codes "cones" → IsCommandAfter d rest → (t s : ℕ) × (d ≡ AllCones t s) × IsQuestion rest t s
 cones_only (Fan w t s certs) rest same h = let e = marks _ _ same in absurd (omega (arith, e))
 cones_only (Faces n) rest same h = let e = marks _ _ same in absurd (omega (arith, e))
 cones_only (Make s run) rest same h = let e = marks _ _ same in absurd (omega (arith, e))
 cones_only (AllCones t s) rest same h = (t, s, refl, h)
+cones_only (Locate t s) rest same h = let e = marks _ _ same in absurd (omega (arith, e))
+cones_only Check rest same h = let e = marks _ _ same in absurd (omega (arith, e))
+
+locate_only : (d : Command) (rest : List (List ℕ)) → command_word d ≡ codes "locate" → IsCommandAfter d rest → (t s : ℕ) × (d ≡ Locate t s) × IsQuestion rest t s
+locate_only (Fan w t s certs) rest same h = let e = marks _ _ same in absurd (omega (arith, e))
+locate_only (Faces n) rest same h = let e = marks _ _ same in absurd (omega (arith, e))
+locate_only (Make s run) rest same h = let e = marks _ _ same in absurd (omega (arith, e))
+locate_only (AllCones t s) rest same h = let e = marks _ _ same in absurd (omega (arith, e))
+locate_only (Locate t s) rest same h = (t, s, refl, h)
+locate_only Check rest same h = let e = marks _ _ same in absurd (omega (arith, e))
+
+check_only : (d : Command) (rest : List (List ℕ)) → command_word d ≡ codes "check" → IsCommandAfter d rest → (d ≡ Check) × (rest ≡ [])
+check_only (Fan w t s certs) rest same h = let e = marks _ _ same in absurd (omega (arith, e))
+check_only (Faces n) rest same h = let e = marks _ _ same in absurd (omega (arith, e))
+check_only (Make s run) rest same h = let e = marks _ _ same in absurd (omega (arith, e))
+check_only (AllCones t s) rest same h = let e = marks _ _ same in absurd (omega (arith, e))
+check_only (Locate t s) rest same h = let e = marks _ _ same in absurd (omega (arith, e))
+check_only Check rest same h = (refl, h)
 
 -- two commands with one first word and one rest
 one_after : (c d : Command) (rest : List (List ℕ)) → command_word c ≡ command_word d → IsCommandAfter c rest → IsCommandAfter d rest → c ≡ d
@@ -60,6 +84,8 @@ one_after (Fan a b c p) d rest same h k =
 one_after (Faces m) d rest same h k = let o = faces_only d rest (sym same) k in ap Faces (one_faces rest m o.0 h o.2) ∙ sym o.1
 one_after (Make s p) d rest same h k = let o = make_only d rest (sym same) k in let all = one_make rest s o.0 p o.1 h o.3 in (λ i. Make (all.0 i) (all.1 i)) ∙ sym o.2
 one_after (AllCones a b) d rest same h k = let o = cones_only d rest (sym same) k in let all = one_question rest a b o.0 o.1 h o.3 in (λ i. AllCones (all.0 i) (all.1 i)) ∙ sym o.2
+one_after (Locate a b) d rest same h k = let o = locate_only d rest (sym same) k in let all = one_question rest a b o.0 o.1 h o.3 in (λ i. Locate (all.0 i) (all.1 i)) ∙ sym o.2
+one_after Check d rest same h k = let o = check_only d rest (sym same) k in sym o.0
 
 pub one_command : OneCommand
 one_command words c d h k =
@@ -88,6 +114,12 @@ no_make words rest e none c h = none_after (codes "make") rest (λ d same k. let
 pub no_cones : (words rest : List (List ℕ)) → words ≡ codes "cones" ∷ rest → ((t s : ℕ) → IsQuestion rest t s → ⊥) → (c : Command) → IsCommand words c → ⊥
 no_cones words rest e none c h = none_after (codes "cones") rest (λ d same k. let o = cones_only d rest same k in none o.0 o.1 o.3) words e c h
 
+pub no_locate : (words rest : List (List ℕ)) → words ≡ codes "locate" ∷ rest → ((t s : ℕ) → IsQuestion rest t s → ⊥) → (c : Command) → IsCommand words c → ⊥
+no_locate words rest e none c h = none_after (codes "locate") rest (λ d same k. let o = locate_only d rest same k in none o.0 o.1 o.3) words e c h
+
+pub no_check : (words rest : List (List ℕ)) → words ≡ codes "check" ∷ rest → (rest ≡ [] → ⊥) → (c : Command) → IsCommand words c → ⊥
+no_check words rest e none c h = none_after (codes "check") rest (λ d same k. let o = check_only d rest same k in none o.1) words e c h
+
 pub fan_found : (words rest : List (List ℕ)) → words ≡ codes "fan" ∷ rest → (r : Option Command) → IfSome r (λ c. (w t s : ℕ) × (certs : Bool) × (c ≡ Fan w t s certs) × IsFan rest w t s certs) → IfSome r (λ c. IsCommand words c)
 fan_found words rest e None h = h
 fan_found words rest e (Some c) h = subst (IsCommand words) (sym h.4) (is_command (Fan h.0 h.1 h.2 h.3) words rest e h.5)
@@ -99,6 +131,14 @@ faces_found words rest e (Some c) h = subst (IsCommand words) (sym h.1) (is_comm
 pub cones_found : (words rest : List (List ℕ)) → words ≡ codes "cones" ∷ rest → (r : Option Command) → IfSome r (λ c. (t s : ℕ) × (c ≡ AllCones t s) × IsQuestion rest t s) → IfSome r (λ c. IsCommand words c)
 cones_found words rest e None h = h
 cones_found words rest e (Some c) h = subst (IsCommand words) (sym h.2) (is_command (AllCones h.0 h.1) words rest e h.3)
+
+pub locate_found : (words rest : List (List ℕ)) → words ≡ codes "locate" ∷ rest → (r : Option Command) → IfSome r (λ c. (t s : ℕ) × (c ≡ Locate t s) × IsQuestion rest t s) → IfSome r (λ c. IsCommand words c)
+locate_found words rest e None h = h
+locate_found words rest e (Some c) h = subst (IsCommand words) (sym h.2) (is_command (Locate h.0 h.1) words rest e h.3)
+
+pub check_found : (words rest : List (List ℕ)) → words ≡ codes "check" ∷ rest → (r : Option Command) → IfSome r (λ c. (c ≡ Check) × (rest ≡ [])) → IfSome r (λ c. IsCommand words c)
+check_found words rest e None h = h
+check_found words rest e (Some c) h = subst (IsCommand words) (sym h.0) (is_command Check words rest e h.1)
 
 -- ---- the limits
 
@@ -146,6 +186,8 @@ after_in (Fan w t s certs) words h =
 after_in (Faces s) words h = let c = given_in STEPS STEPS_UNSET s (given steps_of h.settings) (omega arith) (omega arith) (steps_in h.settings words h.are) h.gives_steps in (c.0, c.1)
 after_in (Make s run) words h = sample_in h.front s h.names
 after_in (AllCones t s) words h = question_in words t s h
+after_in (Locate t s) words h = question_in words t s h
+after_in Check words h = tt
 
 pub commands_are_in_range : CommandsAreInRange
 commands_are_in_range words c h = after_in c h.rest h.after

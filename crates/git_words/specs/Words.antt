@@ -7,7 +7,7 @@ use Rattle.git_words.specs.declared.commands.TheConstants.{WORKERS, TABLE, STEPS
 use Rattle.git_words.specs.declared.commands.Sample.{Sample}
 use Rattle.git_words.specs.declared.commands.Sample.TheVariants.{Points, Plucker}
 use Rattle.git_words.specs.declared.commands.Command.{Command}
-use Rattle.git_words.specs.declared.commands.Command.TheVariants.{Fan, Faces, Make, AllCones}
+use Rattle.git_words.specs.declared.commands.Command.TheVariants.{Fan, Faces, Make, AllCones, Locate, Check}
 use Rattle.git_words.specs.declared.settings.Setting.{Setting}
 use Rattle.git_words.specs.declared.settings.Setting.TheVariants.{Workers, Table, Steps, Certs}
 use Rattle.git_words.specs.declared.options.Options.{Options}
@@ -136,12 +136,16 @@ IsCommandAfter (Fan workers table steps certs) rest = IsFan rest workers table s
 IsCommandAfter (Faces steps) rest = IsFaces rest steps
 IsCommandAfter (Make sample run) rest = IsMake rest sample run
 IsCommandAfter (AllCones table steps) rest = IsQuestion rest table steps
+IsCommandAfter (Locate table steps) rest = IsQuestion rest table steps
+IsCommandAfter Check rest = rest ≡ []
 
 abbrev pub command_word : Command → List ℕ
 command_word (Fan workers table steps certs) = codes "fan"
 command_word (Faces steps) = codes "faces"
 command_word (Make sample run) = codes "make"
 command_word (AllCones table steps) = codes "cones"
+command_word (Locate table steps) = codes "locate"
+command_word Check = codes "check"
 
 -- the words spell the command
 pub record IsCommand (words : List (List ℕ)) (command : Command) : Type 0 where

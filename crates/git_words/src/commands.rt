@@ -48,4 +48,11 @@ pub enum Command {
         table: u32,
         steps: u64,
     },
+    /// Where the weights after an input lie: the most signatures, and the most steps of each face's run.
+    Locate {
+        table: u32,
+        steps: u64,
+    },
+    /// Whether the listing and the certificates after an input are its own.
+    Check,
 }

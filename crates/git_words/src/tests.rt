@@ -113,11 +113,17 @@ fn questions_with_their_limits(rt: HostRuntime) {
         steps: 20_000_000,
     };
     let both = Command::AllCones { table: 2, steps: 9 };
+    let located = Command::Locate {
+        table: 65_536,
+        steps: 20_000_000,
+    };
     assert!(rt;
         spell(&[
             (&["cones"], unset),
             (&["cones", "--table=2", "--steps", "9"], both),
             (&["cones", "--steps=9", "--table", "2"], both),
+            (&["locate", "--table=65536"], located),
+            (&["check"], Command::Check),
         ])
     );
 }
@@ -196,7 +202,10 @@ fn words_that_spell_nothing(rt: HostRuntime) {
 fn more_words_that_spell_nothing(rt: HostRuntime) {
     assert!(rt;
         spell_none(&[
-            &["check"],
+            &["check", ""],
+            &["check", "--table", "1"],
+            &["locate", "--certs"],
+            &["locate", "1"],
             &["cone"],
             &["cones", "1"],
             &["cones", "--certs"],
