@@ -2,7 +2,6 @@
 use Rattle.std.specs.Prelude.{◌≡◌, ℕ, Bool, true, false, List}
 use Rattle.git_base.specs.declared.status.Status.TheVariants.{Done}
 use Rattle.git_words.specs.declared.commands.TheConstants.{TABLE_UNSET, STEPS_UNSET}
-use Rattle.git_words.specs.declared.commands.Sample.{Sample}
 use Rattle.git_words.specs.declared.commands.Command.{Command}
 use Rattle.git_words.specs.declared.commands.Command.TheVariants.{Fan, Faces, Make, AllCones}
 use Rattle.git_input.specs.Inputs.{InputValue}

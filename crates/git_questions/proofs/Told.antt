@@ -1,7 +1,6 @@
 -- A reply without certificates.
-use Rattle.std.proofs.Common.{List, [], ℕ, Result, Ok, Err, refl, sym}
+use Rattle.std.proofs.Common.{List, ℕ, Result, Ok, Err, refl}
 use Rattle.std.specs.Prelude.{IfOk}
-use Rattle.std.proofs.lemmas.List.{append-nil}
 use Rattle.git_base.specs.declared.status.Status.{Status}
 use Rattle.git_input.specs.Inputs.{InputValue}
 use Rattle.git_orbit.specs.Orbits.{Fan}
