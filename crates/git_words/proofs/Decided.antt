@@ -11,7 +11,7 @@ use Rattle.git_words.specs.declared.commands.TheConstants.{WORKERS, TABLE, STEPS
 use Rattle.git_words.specs.declared.commands.Sample.{Sample}
 use Rattle.git_words.specs.declared.commands.Sample.TheVariants.{Points, Plucker}
 use Rattle.git_words.specs.declared.commands.Command.{Command}
-use Rattle.git_words.specs.declared.commands.Command.TheVariants.{Fan, Faces, Make, AllCones, Locate, Check}
+use Rattle.git_words.specs.declared.commands.Command.TheVariants.{Fan, Faces, Make, AllCones, Locate, Bunch}
 use Rattle.git_words.specs.declared.settings.Setting.{Setting}
 use Rattle.git_words.specs.declared.settings.Setting.TheVariants.{Workers, Table, Steps, Certs}
 use Rattle.git_words.specs.Words.{IsNumberWord, IsNumberIn, Names, NamesNumber, Begins, AreSettings, IsGiven, IsFan, IsFaces, IsQuestion, IsMake, NamesSample, IsCommand, command_word, given, workers_of, table_of, steps_of, certs_of}
@@ -19,7 +19,7 @@ use Rattle.git_words.specs.Laws.{CommandOrNone}
 use Rattle.git_words.proofs.Numbers.{one_number}
 use Rattle.git_words.proofs.OneSetting.{one_begin, one_list, are_by, begins_shorter}
 use Rattle.git_words.proofs.Samples.{make_run, make_plain, no_run, no_plain}
-use Rattle.git_words.proofs.OneCommand.{is_command, no_fan, no_faces, no_make, no_cones, no_locate, no_check}
+use Rattle.git_words.proofs.OneCommand.{is_command, no_fan, no_faces, no_make, no_cones, no_locate, no_bunch}
 
 -- ---- words and numbers
 
@@ -428,10 +428,10 @@ locate_known words rest e = elim (has_question rest) [
   | inr none ↦ all_none words (codes "locate") (no_locate words rest e none)
 ]
 
-check_known : (words rest : List (List ℕ)) → words ≡ codes "check" ∷ rest → Known words (codes "check")
-check_known words rest e = elim (has_none rest) [
-  | inl h ↦ inl (Check, is_command Check words rest e h)
-  | inr some ↦ all_none words (codes "check") (no_check words rest e some)
+bunch_known : (words rest : List (List ℕ)) → words ≡ codes "bunch" ∷ rest → Known words (codes "bunch")
+bunch_known words rest e = elim (has_question rest) [
+  | inl h ↦ inl (Bunch h.0 h.1, is_command (Bunch h.0 h.1) words rest e h.2)
+  | inr none ↦ all_none words (codes "bunch") (no_bunch words rest e none)
 ]
 
 pub command_or_none : CommandOrNone
@@ -445,9 +445,9 @@ command_or_none words = elim (with_word (codes "fan") words (fan_known words)) [
         | inl h ↦ inl h
         | inr cones ↦ elim (with_word (codes "locate") words (locate_known words)) [
           | inl h ↦ inl h
-          | inr locate ↦ elim (with_word (codes "check") words (check_known words)) [
+          | inr locate ↦ elim (with_word (codes "bunch") words (bunch_known words)) [
             | inl h ↦ inl h
-            | inr check ↦ inr (λ c h. by fan faces make cones locate check c h)
+            | inr bunch ↦ inr (λ c h. by fan faces make cones locate bunch c h)
           ]
         ]
       ]
@@ -457,10 +457,10 @@ command_or_none words = elim (with_word (codes "fan") words (fan_known words)) [
   None_of : List ℕ → Type 0
   None_of word = (c : Command) → command_word c ≡ word → IsCommand words c → ⊥
 
-  by : None_of (codes "fan") → None_of (codes "faces") → None_of (codes "make") → None_of (codes "cones") → None_of (codes "locate") → None_of (codes "check") → (c : Command) → IsCommand words c → ⊥
-  by fan faces make cones locate check (Fan w t s certs) h = fan (Fan w t s certs) refl h
-  by fan faces make cones locate check (Faces n) h = faces (Faces n) refl h
-  by fan faces make cones locate check (Make s run) h = make (Make s run) refl h
-  by fan faces make cones locate check (AllCones t s) h = cones (AllCones t s) refl h
-  by fan faces make cones locate check (Locate t s) h = locate (Locate t s) refl h
-  by fan faces make cones locate check Check h = check Check refl h
+  by : None_of (codes "fan") → None_of (codes "faces") → None_of (codes "make") → None_of (codes "cones") → None_of (codes "locate") → None_of (codes "bunch") → (c : Command) → IsCommand words c → ⊥
+  by fan faces make cones locate bunch (Fan w t s certs) h = fan (Fan w t s certs) refl h
+  by fan faces make cones locate bunch (Faces n) h = faces (Faces n) refl h
+  by fan faces make cones locate bunch (Make s run) h = make (Make s run) refl h
+  by fan faces make cones locate bunch (AllCones t s) h = cones (AllCones t s) refl h
+  by fan faces make cones locate bunch (Locate t s) h = locate (Locate t s) refl h
+  by fan faces make cones locate bunch (Bunch t s) h = bunch (Bunch t s) refl h

@@ -4,7 +4,7 @@ use Rattle.std.specs.Prelude.{codes, IfSome}
 use Rattle.git_words.specs.declared.commands.Sample.{Sample}
 use Rattle.git_words.specs.declared.commands.Sample.TheVariants.{Points, Plucker}
 use Rattle.git_words.specs.declared.commands.Command.{Command}
-use Rattle.git_words.specs.declared.commands.Command.TheVariants.{Fan, Faces, Make, AllCones, Locate, Check}
+use Rattle.git_words.specs.declared.commands.Command.TheVariants.{Fan, Faces, Make, AllCones, Locate, Bunch}
 use Rattle.git_words.specs.declared.commands.TheConstants.{WORKERS, TABLE, STEPS, WORKERS_UNSET, TABLE_UNSET, STEPS_UNSET}
 use Rattle.git_words.specs.declared.settings.Setting.{Setting}
 use Rattle.git_words.specs.declared.settings.Setting.TheVariants.{Workers, Table, Steps, Certs}
@@ -35,7 +35,7 @@ fan_only (Faces n) rest same h = let e = marks _ _ same in absurd (omega (arith,
 fan_only (Make s run) rest same h = let e = marks _ _ same in absurd (omega (arith, e))
 fan_only (AllCones t s) rest same h = let e = marks _ _ same in absurd (omega (arith, e))
 fan_only (Locate t s) rest same h = let e = marks _ _ same in absurd (omega (arith, e))
-fan_only Check rest same h = let e = marks _ _ same in absurd (omega (arith, e))
+fan_only (Bunch t s) rest same h = let e = marks _ _ same in absurd (omega (arith, e))
 
 faces_only : (d : Command) (rest : List (List ℕ)) → command_word d ≡ codes "faces" → IsCommandAfter d rest → (n : ℕ) × (d ≡ Faces n) × IsFaces rest n
 faces_only (Fan w t s certs) rest same h = let e = marks _ _ same in absurd (omega (arith, e))
@@ -43,7 +43,7 @@ faces_only (Faces n) rest same h = (n, refl, h)
 faces_only (Make s run) rest same h = let e = marks _ _ same in absurd (omega (arith, e))
 faces_only (AllCones t s) rest same h = let e = marks _ _ same in absurd (omega (arith, e))
 faces_only (Locate t s) rest same h = let e = marks _ _ same in absurd (omega (arith, e))
-faces_only Check rest same h = let e = marks _ _ same in absurd (omega (arith, e))
+faces_only (Bunch t s) rest same h = let e = marks _ _ same in absurd (omega (arith, e))
 
 make_only : (d : Command) (rest : List (List ℕ)) → command_word d ≡ codes "make" → IsCommandAfter d rest → (s : Sample) × (run : Bool) × (d ≡ Make s run) × IsMake rest s run
 make_only (Fan w t s certs) rest same h = let e = marks _ _ same in absurd (omega (arith, e))
@@ -51,7 +51,7 @@ make_only (Faces n) rest same h = let e = marks _ _ same in absurd (omega (arith
 make_only (Make s run) rest same h = (s, run, refl, h)
 make_only (AllCones t s) rest same h = let e = marks _ _ same in absurd (omega (arith, e))
 make_only (Locate t s) rest same h = let e = marks _ _ same in absurd (omega (arith, e))
-make_only Check rest same h = let e = marks _ _ same in absurd (omega (arith, e))
+make_only (Bunch t s) rest same h = let e = marks _ _ same in absurd (omega (arith, e))
 
 cones_only : (d : Command) (rest : List (List ℕ)) → command_word d ≡ codes "cones" → IsCommandAfter d rest → (t s : ℕ) × (d ≡ AllCones t s) × IsQuestion rest t s
 cones_only (Fan w t s certs) rest same h = let e = marks _ _ same in absurd (omega (arith, e))
@@ -59,7 +59,7 @@ cones_only (Faces n) rest same h = let e = marks _ _ same in absurd (omega (arit
 cones_only (Make s run) rest same h = let e = marks _ _ same in absurd (omega (arith, e))
 cones_only (AllCones t s) rest same h = (t, s, refl, h)
 cones_only (Locate t s) rest same h = let e = marks _ _ same in absurd (omega (arith, e))
-cones_only Check rest same h = let e = marks _ _ same in absurd (omega (arith, e))
+cones_only (Bunch t s) rest same h = let e = marks _ _ same in absurd (omega (arith, e))
 
 locate_only : (d : Command) (rest : List (List ℕ)) → command_word d ≡ codes "locate" → IsCommandAfter d rest → (t s : ℕ) × (d ≡ Locate t s) × IsQuestion rest t s
 locate_only (Fan w t s certs) rest same h = let e = marks _ _ same in absurd (omega (arith, e))
@@ -67,15 +67,15 @@ locate_only (Faces n) rest same h = let e = marks _ _ same in absurd (omega (ari
 locate_only (Make s run) rest same h = let e = marks _ _ same in absurd (omega (arith, e))
 locate_only (AllCones t s) rest same h = let e = marks _ _ same in absurd (omega (arith, e))
 locate_only (Locate t s) rest same h = (t, s, refl, h)
-locate_only Check rest same h = let e = marks _ _ same in absurd (omega (arith, e))
+locate_only (Bunch t s) rest same h = let e = marks _ _ same in absurd (omega (arith, e))
 
-check_only : (d : Command) (rest : List (List ℕ)) → command_word d ≡ codes "check" → IsCommandAfter d rest → (d ≡ Check) × (rest ≡ [])
-check_only (Fan w t s certs) rest same h = let e = marks _ _ same in absurd (omega (arith, e))
-check_only (Faces n) rest same h = let e = marks _ _ same in absurd (omega (arith, e))
-check_only (Make s run) rest same h = let e = marks _ _ same in absurd (omega (arith, e))
-check_only (AllCones t s) rest same h = let e = marks _ _ same in absurd (omega (arith, e))
-check_only (Locate t s) rest same h = let e = marks _ _ same in absurd (omega (arith, e))
-check_only Check rest same h = (refl, h)
+bunch_only : (d : Command) (rest : List (List ℕ)) → command_word d ≡ codes "bunch" → IsCommandAfter d rest → (t s : ℕ) × (d ≡ Bunch t s) × IsQuestion rest t s
+bunch_only (Fan w t s certs) rest same h = let e = marks _ _ same in absurd (omega (arith, e))
+bunch_only (Faces n) rest same h = let e = marks _ _ same in absurd (omega (arith, e))
+bunch_only (Make s run) rest same h = let e = marks _ _ same in absurd (omega (arith, e))
+bunch_only (AllCones t s) rest same h = let e = marks _ _ same in absurd (omega (arith, e))
+bunch_only (Locate t s) rest same h = let e = marks _ _ same in absurd (omega (arith, e))
+bunch_only (Bunch t s) rest same h = (t, s, refl, h)
 
 -- two commands with one first word and one rest
 one_after : (c d : Command) (rest : List (List ℕ)) → command_word c ≡ command_word d → IsCommandAfter c rest → IsCommandAfter d rest → c ≡ d
@@ -85,7 +85,7 @@ one_after (Faces m) d rest same h k = let o = faces_only d rest (sym same) k in 
 one_after (Make s p) d rest same h k = let o = make_only d rest (sym same) k in let all = one_make rest s o.0 p o.1 h o.3 in (λ i. Make (all.0 i) (all.1 i)) ∙ sym o.2
 one_after (AllCones a b) d rest same h k = let o = cones_only d rest (sym same) k in let all = one_question rest a b o.0 o.1 h o.3 in (λ i. AllCones (all.0 i) (all.1 i)) ∙ sym o.2
 one_after (Locate a b) d rest same h k = let o = locate_only d rest (sym same) k in let all = one_question rest a b o.0 o.1 h o.3 in (λ i. Locate (all.0 i) (all.1 i)) ∙ sym o.2
-one_after Check d rest same h k = let o = check_only d rest (sym same) k in sym o.0
+one_after (Bunch a b) d rest same h k = let o = bunch_only d rest (sym same) k in let all = one_question rest a b o.0 o.1 h o.3 in (λ i. Bunch (all.0 i) (all.1 i)) ∙ sym o.2
 
 pub one_command : OneCommand
 one_command words c d h k =
@@ -117,8 +117,8 @@ no_cones words rest e none c h = none_after (codes "cones") rest (λ d same k. l
 pub no_locate : (words rest : List (List ℕ)) → words ≡ codes "locate" ∷ rest → ((t s : ℕ) → IsQuestion rest t s → ⊥) → (c : Command) → IsCommand words c → ⊥
 no_locate words rest e none c h = none_after (codes "locate") rest (λ d same k. let o = locate_only d rest same k in none o.0 o.1 o.3) words e c h
 
-pub no_check : (words rest : List (List ℕ)) → words ≡ codes "check" ∷ rest → (rest ≡ [] → ⊥) → (c : Command) → IsCommand words c → ⊥
-no_check words rest e none c h = none_after (codes "check") rest (λ d same k. let o = check_only d rest same k in none o.1) words e c h
+pub no_bunch : (words rest : List (List ℕ)) → words ≡ codes "bunch" ∷ rest → ((t s : ℕ) → IsQuestion rest t s → ⊥) → (c : Command) → IsCommand words c → ⊥
+no_bunch words rest e none c h = none_after (codes "bunch") rest (λ d same k. let o = bunch_only d rest same k in none o.0 o.1 o.3) words e c h
 
 pub fan_found : (words rest : List (List ℕ)) → words ≡ codes "fan" ∷ rest → (r : Option Command) → IfSome r (λ c. (w t s : ℕ) × (certs : Bool) × (c ≡ Fan w t s certs) × IsFan rest w t s certs) → IfSome r (λ c. IsCommand words c)
 fan_found words rest e None h = h
@@ -136,9 +136,9 @@ pub locate_found : (words rest : List (List ℕ)) → words ≡ codes "locate" �
 locate_found words rest e None h = h
 locate_found words rest e (Some c) h = subst (IsCommand words) (sym h.2) (is_command (Locate h.0 h.1) words rest e h.3)
 
-pub check_found : (words rest : List (List ℕ)) → words ≡ codes "check" ∷ rest → (r : Option Command) → IfSome r (λ c. (c ≡ Check) × (rest ≡ [])) → IfSome r (λ c. IsCommand words c)
-check_found words rest e None h = h
-check_found words rest e (Some c) h = subst (IsCommand words) (sym h.0) (is_command Check words rest e h.1)
+pub bunch_found : (words rest : List (List ℕ)) → words ≡ codes "bunch" ∷ rest → (r : Option Command) → IfSome r (λ c. (t s : ℕ) × (c ≡ Bunch t s) × IsQuestion rest t s) → IfSome r (λ c. IsCommand words c)
+bunch_found words rest e None h = h
+bunch_found words rest e (Some c) h = subst (IsCommand words) (sym h.2) (is_command (Bunch h.0 h.1) words rest e h.3)
 
 -- ---- the limits
 
@@ -187,7 +187,7 @@ after_in (Faces s) words h = let c = given_in STEPS STEPS_UNSET s (given steps_o
 after_in (Make s run) words h = sample_in h.front s h.names
 after_in (AllCones t s) words h = question_in words t s h
 after_in (Locate t s) words h = question_in words t s h
-after_in Check words h = tt
+after_in (Bunch t s) words h = question_in words t s h
 
 pub commands_are_in_range : CommandsAreInRange
 commands_are_in_range words c h = after_in c h.rest h.after

@@ -4,7 +4,7 @@ use Rattle.git_words.specs.declared.commands.TheConstants.{WORKERS, TABLE, STEPS
 use Rattle.git_words.specs.declared.commands.Sample.{Sample}
 use Rattle.git_words.specs.declared.commands.Sample.TheVariants.{Points, Plucker}
 use Rattle.git_words.specs.declared.commands.Command.{Command}
-use Rattle.git_words.specs.declared.commands.Command.TheVariants.{Fan, Faces, Make, AllCones, Locate, Check}
+use Rattle.git_words.specs.declared.commands.Command.TheVariants.{Fan, Faces, Make, AllCones, Locate, Bunch}
 use Rattle.git_words.specs.Words.{IsCommand}
 
 -- words spell one command at most
@@ -26,7 +26,7 @@ IsInRange (Faces steps) = (1 ≤ steps) × (steps ≤ STEPS)
 IsInRange (Make sample run) = IsSampleInRange sample
 IsInRange (AllCones table steps) = (1 ≤ table) × (table ≤ TABLE) × (1 ≤ steps) × (steps ≤ STEPS)
 IsInRange (Locate table steps) = (1 ≤ table) × (table ≤ TABLE) × (1 ≤ steps) × (steps ≤ STEPS)
-IsInRange Check = Unit {0}
+IsInRange (Bunch table steps) = (1 ≤ table) × (table ≤ TABLE) × (1 ≤ steps) × (steps ≤ STEPS)
 
 -- the numbers of a command that is spelled are within the limits
 abbrev pub CommandsAreInRange : Type 0

@@ -7,7 +7,7 @@ use Rattle.git_words.specs.declared.commands.TheConstants.{WORKERS, TABLE, STEPS
 use Rattle.git_words.specs.declared.commands.Sample.{Sample}
 use Rattle.git_words.specs.declared.commands.Sample.TheVariants.{Points, Plucker}
 use Rattle.git_words.specs.declared.commands.Command.{Command}
-use Rattle.git_words.specs.declared.commands.Command.TheVariants.{Fan, Faces, Make, AllCones, Locate, Check}
+use Rattle.git_words.specs.declared.commands.Command.TheVariants.{Fan, Faces, Make, AllCones, Locate, Bunch}
 use Rattle.git_words.specs.declared.settings.Setting.{Setting}
 use Rattle.git_words.specs.declared.settings.Setting.TheVariants.{Workers, Table, Steps, Certs}
 use Rattle.git_words.specs.declared.options.Options.{Options}
@@ -137,7 +137,7 @@ IsCommandAfter (Faces steps) rest = IsFaces rest steps
 IsCommandAfter (Make sample run) rest = IsMake rest sample run
 IsCommandAfter (AllCones table steps) rest = IsQuestion rest table steps
 IsCommandAfter (Locate table steps) rest = IsQuestion rest table steps
-IsCommandAfter Check rest = rest ≡ []
+IsCommandAfter (Bunch table steps) rest = IsQuestion rest table steps
 
 abbrev pub command_word : Command → List ℕ
 command_word (Fan workers table steps certs) = codes "fan"
@@ -145,7 +145,7 @@ command_word (Faces steps) = codes "faces"
 command_word (Make sample run) = codes "make"
 command_word (AllCones table steps) = codes "cones"
 command_word (Locate table steps) = codes "locate"
-command_word Check = codes "check"
+command_word (Bunch table steps) = codes "bunch"
 
 -- the words spell the command
 pub record IsCommand (words : List (List ℕ)) (command : Command) : Type 0 where

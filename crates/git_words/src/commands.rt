@@ -53,6 +53,9 @@ pub enum Command {
         table: u32,
         steps: u64,
     },
-    /// Whether the listing and the certificates after an input are its own.
-    Check,
+    /// The bunches of the chambers: the most signatures, and the most steps of each face's run.
+    Bunch {
+        table: u32,
+        steps: u64,
+    },
 }

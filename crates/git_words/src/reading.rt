@@ -1,7 +1,7 @@
 //! The reader of the words.
-ghost use Rattle.std.specs.Prelude.{◌≡◌, ◌++◌, [], ℕ, List, Bool, IfSome, IsNone};
+ghost use Rattle.std.specs.Prelude.{◌≡◌, ◌++◌, ℕ, List, Bool, IfSome, IsNone};
 ghost use Rattle.git_words.specs.Words.{words_of, IsFan, IsFaces, IsMake, IsQuestion, IsCommand, IsCommandAfter, IsNumberWord, NamesSample};
-ghost use Rattle.git_words.specs.declared.commands.Command.TheVariants.{Fan, Faces, Make, AllCones, Locate, Check};
+ghost use Rattle.git_words.specs.declared.commands.Command.TheVariants.{Fan, Faces, Make, AllCones, Locate, Bunch};
 
 use crate::commands::{Command, STEPS_UNSET, Sample, TABLE_UNSET, WORKERS_UNSET};
 use crate::options::{read_options, sets_for_fan, sets_more};
@@ -66,15 +66,13 @@ fn read_locate(words: &[&str]) -> Option<Command>
     Some(Command::Locate { table, steps })
 }
 
-/// What the words after `check` ask for: none may stand there.
-fn read_check(words: &[&str]) -> Option<Command>
-    ensures some { IfSome result (λ c. (c ≡ Check) × (words_of words.now ≡ [])) }
-    ensures none { IsNone result → words_of words.now ≡ [] → ⊥ }
+/// What the words after `bunch` ask for.
+fn read_bunch(words: &[&str]) -> Option<Command>
+    ensures some { IfSome result (λ c. (table steps : ℕ) × (c ≡ Bunch table steps) × IsQuestion (words_of words.now) table steps) }
+    ensures none { IsNone result → (table steps : ℕ) → IsQuestion (words_of words.now) table steps → ⊥ }
 {
-    match words {
-        [] => Some(Command::Check),
-        _ => None,
-    }
+    let (table, steps) = read_question(words)?;
+    Some(Command::Bunch { table, steps })
 }
 
 /// The seed that the word stands for: one to nine digits.
@@ -131,7 +129,7 @@ pub fn read_words(words: &[&str]) -> Option<Command>
         ["make", rest @ ..] => read_make(rest),
         ["cones", rest @ ..] => read_cones(rest),
         ["locate", rest @ ..] => read_locate(rest),
-        ["check", rest @ ..] => read_check(rest),
+        ["bunch", rest @ ..] => read_bunch(rest),
         _ => None,
     }
 }

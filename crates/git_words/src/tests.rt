@@ -117,13 +117,17 @@ fn questions_with_their_limits(rt: HostRuntime) {
         table: 65_536,
         steps: 20_000_000,
     };
+    let bunches = Command::Bunch {
+        table: 4096,
+        steps: 20_000_000,
+    };
     assert!(rt;
         spell(&[
             (&["cones"], unset),
             (&["cones", "--table=2", "--steps", "9"], both),
             (&["cones", "--steps=9", "--table", "2"], both),
             (&["locate", "--table=65536"], located),
-            (&["check"], Command::Check),
+            (&["bunch"], bunches),
         ])
     );
 }
@@ -202,8 +206,8 @@ fn words_that_spell_nothing(rt: HostRuntime) {
 fn more_words_that_spell_nothing(rt: HostRuntime) {
     assert!(rt;
         spell_none(&[
-            &["check", ""],
-            &["check", "--table", "1"],
+            &["check"],
+            &["bunch", "bunch"],
             &["locate", "--certs"],
             &["locate", "1"],
             &["cone"],

@@ -2,7 +2,7 @@ use Rattle.std.proofs.Common.{◌≡◌, ◌-◌, ◌∷◌, length, take, drop}
 use Rattle.std.specs.Prelude.{codes}
 use Rattle.git_words.specs.Words.{words_of}
 use Rattle.git_words.proofs.Samples.{first_is}
-use Rattle.git_words.proofs.OneCommand.{fan_found, faces_found, cones_found, locate_found, check_found}
+use Rattle.git_words.proofs.OneCommand.{fan_found, faces_found, cones_found, locate_found, bunch_found}
 use Rattle.git_words.proofs.reading.read_words.Goals as goal
 
 pub returns-in-fan-clause-some : goal.returns-in-fan-clause-some
@@ -25,7 +25,7 @@ returns-in-locate-clause-some c =
     let e : words_of c.args.words.now ≡ codes "locate" ∷ words_of (take (length c.args.words.now - 1) (drop 1 c.args.words.now)) = first_is c.args.words.now _ (codes "locate") c.in-locate.len_at_least c.in-locate.is-locate in
     locate_found (words_of c.args.words.now) (words_of (take (length c.args.words.now - 1) (drop 1 c.args.words.now))) e c.read_locate.result c.read_locate.ensures.some
 
-pub returns-in-check-clause-some : goal.returns-in-check-clause-some
-returns-in-check-clause-some c =
-    let e : words_of c.args.words.now ≡ codes "check" ∷ words_of (take (length c.args.words.now - 1) (drop 1 c.args.words.now)) = first_is c.args.words.now _ (codes "check") c.in-check.len_at_least c.in-check.is-check in
-    check_found (words_of c.args.words.now) (words_of (take (length c.args.words.now - 1) (drop 1 c.args.words.now))) e c.read_check.result c.read_check.ensures.some
+pub returns-in-bunch-clause-some : goal.returns-in-bunch-clause-some
+returns-in-bunch-clause-some c =
+    let e : words_of c.args.words.now ≡ codes "bunch" ∷ words_of (take (length c.args.words.now - 1) (drop 1 c.args.words.now)) = first_is c.args.words.now _ (codes "bunch") c.in-bunch.len_at_least c.in-bunch.is-bunch in
+    bunch_found (words_of c.args.words.now) (words_of (take (length c.args.words.now - 1) (drop 1 c.args.words.now))) e c.read_bunch.result c.read_bunch.ensures.some
