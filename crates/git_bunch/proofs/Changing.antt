@@ -6,7 +6,7 @@ use Rattle.git_stages.specs.Short.{IsShort}
 use Rattle.git_defs.specs.Vectors.{Vector}
 use Rattle.git_machine.specs.Signatures.{Signature}
 use Rattle.git_orbit.specs.Orbits.{Fan}
-use Rattle.git_listing.specs.Listings.{Facet, boundary, inner}
+use Rattle.git_listing.specs.Listings.{Facet}
 use Rattle.git_listing.specs.Views.{facet_of, side_of}
 use Rattle.git_listing.specs.declared.listing.ListedFacet.{ListedFacet}
 use Rattle.git_listing.specs.declared.listing.ListedSide.TheVariants as sides

@@ -1,5 +1,5 @@
 -- A cone is that of a face exactly where it holds the columns and each of its rays has a column along it.
-use Rattle.std.proofs.Common.{◌≡◌, ◌∙◌, ◌*◌, ◌<◌, ◌^◌, List, ap, arith, false, inl, inr, length, refl, subst, sym, ℕ}
+use Rattle.std.proofs.Common.{◌≡◌, ◌∙◌, ◌*◌, ◌<◌, ◌^◌, List, ap, arith, false, inl, inr, length, subst, sym, ℕ}
 use Rattle.std.proofs.Math.IntN.{ℤ, pos, pos-*ℤ-pos}
 use Rattle.std.proofs.lemmas.Int.{ints}
 use Rattle.std.specs.Prelude.{◌↔◌, IsTrue}
@@ -18,14 +18,13 @@ use Rattle.git_geometry.proofs.Squares.{vector_zero_or_not}
 use Rattle.git_lemmas.proofs.Members.{all_member, as_member, contained, member_all, member_contains}
 use Rattle.git_lemmas.specs.Members.{Member}
 use Rattle.git_minors.proofs.Parts.{face_of_length}
-use Rattle.git_ints.specs.Content.{IsPrimitivePart}
 use Rattle.git_stages.proofs.Exist.{part_exists}
 use Rattle.git_canon.specs.Canons.{Described, IsCanon}
 use Rattle.git_orbit.specs.Orbits.{Fan}
 use Rattle.git_orbit.specs.Signatures.{facets_at}
 use Rattle.git_bunch.specs.Stable.{IsNumberOf}
 use Rattle.git_orbit.proofs.Masks.{meets_from, meets_to, sel_from, sel_to, zip_back, zip_to}
-use Rattle.git_orbit.specs.Keys.{AreZipped, HasKey, Selects}
+use Rattle.git_orbit.specs.Keys.{HasKey, Selects}
 use Rattle.git_bunch.specs.Keys.{IsAlong, IsKey, MeetsRay, MeetsRays}
 
 -- the columns of a face lie in its cone, so they are among those that the cone holds

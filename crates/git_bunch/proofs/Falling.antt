@@ -1,5 +1,5 @@
 -- A list of numbers that is sorted, loses its repeats and is turned round.
-use Rattle.std.proofs.Common.{[], ◌≡◌, ◌∙◌, ◌+◌, ◌-◌, ◌<◌, List, arith, eqb, get_or, length, reverse, subst, sym, ℕ}
+use Rattle.std.proofs.Common.{[], ◌-◌, ◌<◌, List, arith, eqb, length, reverse, subst, sym, ℕ}
 use Rattle.std.specs.Prelude.{AllPairs, Contains, IsPermutation}
 use Rattle.std.specs.List.Sorted.{IsSorted}
 use Rattle.std.specs.List.Retain.{IsFiltered, DiffersFromLast}

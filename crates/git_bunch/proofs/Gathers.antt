@@ -1,5 +1,5 @@
 -- The faces of groups, gathered: those that are stable for sets of cones, and the minimal ones.
-use Rattle.std.proofs.Common.{◌≡◌, ◌∙◌, ◌+◌, ◌<◌, [], ◌++◌, List, arith, get_or, inl, inr, length, subst, sym, ℕ}
+use Rattle.std.proofs.Common.{◌≡◌, ◌+◌, ◌<◌, [], ◌++◌, List, arith, get_or, inl, inr, length, subst, ℕ}
 use Rattle.std.specs.Prelude.{◌↔◌, Contains}
 use Rattle.std.proofs.lemmas.Bool.{cases_lt}
 use Rattle.std.proofs.lemmas.List.Elements.{Contains-append_cases, Contains-append_left, Contains-append_right}
@@ -8,7 +8,7 @@ use Rattle.git_machine.specs.Signatures.{Has, Signature}
 use Rattle.git_orbit.specs.Signatures.{facets_at}
 use Rattle.git_bunch.specs.declared.groups.Group.{Group}
 use Rattle.git_bunch.specs.Groups.{AreGroups, IsGroupOf, IsOnly}
-use Rattle.git_bunch.specs.Least.{AreLeastOf, Covers, IsLeast}
+use Rattle.git_bunch.specs.Least.{AreLeastOf}
 use Rattle.git_bunch.specs.Stable.{AreDescending, Family, IsFamily, IsNumberOf, Lost, Minimal, Stable, Wall}
 use Rattle.git_bunch.proofs.Sides.{one_number}
 use Rattle.git_bunch.proofs.Within.{IsCovered, within_all, within_less}

@@ -6,3 +6,7 @@ mod Grouping
 mod Naming
 mod Sides
 mod Within
+pub mod Numbered
+mod Minimals
+pub mod Once
+pub mod Exist

@@ -1,18 +1,16 @@
 -- The bunches of chambers beside each other: each step names the chamber behind its facet.
 use Rattle.std.proofs.Common.{◌≡◌, ◌∙◌, ◌+◌, ◌<◌, ◌∷◌, [], ◌++◌, Bool, List, ap, arith, get_or, inl, inr, length, map, refl, subst, sym, take, ℕ}
-use Rattle.std.specs.Prelude.{All, Contains}
+use Rattle.std.specs.Prelude.{All}
 use Rattle.std.specs.List.{AllZip}
 use Rattle.std.proofs.lemmas.List.{get_or-map, length-map, map-append, take_more}
 use Rattle.git_defs.specs.Vectors.{AllOfLength, Vector}
-use Rattle.git_lemmas.proofs.Members.{all_member, member_contains}
+use Rattle.git_lemmas.proofs.Members.{member_contains}
 use Rattle.git_lemmas.specs.Members.{Member}
 use Rattle.git_machine.specs.Signatures.{Signature}
-use Rattle.git_stages.specs.Short.{IsShort}
 use Rattle.git_orbit.proofs.Existence.{a_holding}
 use Rattle.git_orbit.proofs.Signatures.{one_signature}
-use Rattle.git_orbit.specs.Orbits.{Fan}
 use Rattle.git_orbit.specs.Signatures.{IsHolding, IsSignature}
-use Rattle.git_listing.specs.Listings.{Chamber, Facet, boundary, inner}
+use Rattle.git_listing.specs.Listings.{Chamber, Facet, inner}
 use Rattle.git_listing.specs.Views.{chamber_of}
 use Rattle.git_listing.specs.declared.listing.ListedChamber.{ListedChamber}
 use Rattle.git_chamber.specs.Chambers.{crossing}
@@ -20,7 +18,7 @@ use Rattle.git_asked.proofs.Places.{all_at}
 use Rattle.git_asked.specs.Asked.{IsNumber, KindFits, LeadsTo}
 use Rattle.git_bunch.specs.declared.groups.Group.{Group}
 use Rattle.git_bunch.specs.declared.values.Bunch.{Bunch}
-use Rattle.git_bunch.specs.Bunches.{AreBunches, AreCrossed, AreSteps, BunchValue, IsBunch, IsChange, IsCrossedListing, IsSizedChamber, IsStep, StepValue}
+use Rattle.git_bunch.specs.Bunches.{AreCrossed, AreSteps, BunchValue, IsBunch, IsSizedChamber, IsStep, StepValue}
 use Rattle.git_bunch.specs.Changes.{AreChanges, IsBunchAlone, IsChangeTo}
 use Rattle.git_bunch.specs.Groups.{AreGroups}
 use Rattle.git_bunch.specs.Stable.{Family, IsFamily}
@@ -88,7 +86,7 @@ pub one_more_bunch : (R : Chamber → BunchValue → Type 0) (cs : List ListedCh
     → AllZip R (map chamber_of (take i cs)) (map bunch_of bs) → R (chamber_of c) (bunch_of b) → AllZip R (map chamber_of (take (i + 1) cs)) (map bunch_of (bs ++ b ∷ []))
 one_more_bunch R cs bs i c b low at before here =
     let front : map chamber_of (take (i + 1) cs) ≡ map chamber_of (take i cs) ++ chamber_of c ∷ [] =
-        ap (map chamber_of) (take_more cs i c low) ∙ map-append chamber_of (take i cs) (get_or cs i c ∷ []) ∙ ap (λ (d : ListedChamber). map chamber_of (take i cs) ++ chamber_of d ∷ []) (sym at) in
+    ap (map chamber_of) (take_more cs i c low) ∙ map-append chamber_of (take i cs) (get_or cs i c ∷ []) ∙ ap (λ (d : ListedChamber). map chamber_of (take i cs) ++ chamber_of d ∷ []) (sym at) in
     subst (λ (l : List Chamber). AllZip R l (map bunch_of (bs ++ b ∷ []))) (sym front)
     (subst (AllZip R (map chamber_of (take i cs) ++ chamber_of c ∷ [])) (sym (map-append bunch_of bs (b ∷ []))) (zip_push R (map chamber_of (take i cs)) (map bunch_of bs) (chamber_of c) (bunch_of b) before here))
 

@@ -1,10 +1,10 @@
 -- Faces have one number, and what is stable beside a wall is stable on it.
-use Rattle.std.proofs.Common.{◌≡◌, ◌⊎◌, ◌∙◌, ◌<◌, ◌≤◌, ◌∷◌, [], List, ap, arith, get_or, inl, inr, length, map, refl, subst, suc, sym, zero, ℕ}
+use Rattle.std.proofs.Common.{◌≡◌, ◌∙◌, ◌<◌, ◌∷◌, [], List, arith, get_or, inl, inr, length, map, refl, subst, sym, ℕ}
 use Rattle.std.proofs.Math.IntN.{ℤ, negsuc, pos}
 use Rattle.std.proofs.lemmas.Bool.{cases_lt}
 use Rattle.std.proofs.lemmas.Int.{ints}
 use Rattle.std.proofs.lemmas.List.{length-map}
-use Rattle.std.specs.Prelude.{AllPairs, Contains, ◌<ℤ◌, ◌≤ℤ◌, ◌≢◌, slice_index}
+use Rattle.std.specs.Prelude.{AllPairs, Contains, ◌<ℤ◌, ◌≢◌}
 use Rattle.git_defs.proofs.Closed.{sign_of}
 use Rattle.git_defs.proofs.Lengths.{OfLength, all_of_length}
 use Rattle.git_defs.specs.Cones.{Cut, SameSet}
@@ -17,12 +17,11 @@ use Rattle.git_geometry.proofs.Cuts.{cut_closed, cut_of}
 use Rattle.git_geometry.proofs.Inside.{germ_of_length, length-vector_sum}
 use Rattle.git_geometry.proofs.Signs.{signs_of_holds}
 use Rattle.git_geometry.specs.Germs.{Holds, first_sign, sign_at}
-use Rattle.git_lemmas.proofs.Members.{all_member, as_member}
-use Rattle.git_lemmas.specs.Members.{Member}
+use Rattle.git_lemmas.proofs.Members.{all_member}
 use Rattle.git_machine.specs.Signatures.{Has, Signature}
 use Rattle.git_orbit.proofs.Fans.{face_of_cone, read_cone}
 use Rattle.git_orbit.proofs.Walls.{weight_in}
-use Rattle.git_orbit.specs.Orbits.{Fan, greatest_of}
+use Rattle.git_orbit.specs.Orbits.{greatest_of}
 use Rattle.git_orbit.specs.Signatures.{IsHolding, IsSignature, cone_in, facets_at}
 use Rattle.git_orbit.specs.declared.orbit.OrbitCone.{OrbitCone}
 use Rattle.git_chamber.specs.Chambers.{crossing}

@@ -1,5 +1,5 @@
 -- Masks within masks, and how the least of a list are found.
-use Rattle.std.proofs.Common.{◌≡◌, ◌⊎◌, ◌∙◌, ◌+◌, ◌-◌, ◌<◌, ◌≤◌, ◌∷◌, [], ◌++◌, List, arith, bit_and, get_or, inl, inr, length, refl, subst, sym, ℕ}
+use Rattle.std.proofs.Common.{◌≡◌, ◌⊎◌, ◌∙◌, ◌+◌, ◌<◌, ◌≤◌, ◌∷◌, [], ◌++◌, List, arith, get_or, inl, inr, length, refl, subst, sym, ℕ}
 use Rattle.std.specs.Prelude.{◌↔◌, AllPairs, Contains}
 use Rattle.std.proofs.lemmas.Bool.{cases_lt}
 use Rattle.std.proofs.lemmas.List.{get_or_default}
@@ -91,11 +91,14 @@ module _ (xs : List ℕ) (i c : ℕ) (kept : List ℕ) (fall : AllPairs (λ (m n
 
 pub sifted_all : (xs kept : List ℕ) → Sifting xs 0 kept → AreLeast xs kept
 sifted_all xs kept s = record {
-  each = λ m. (s.sound m, λ l.
-      let h = l.holds in
-      let r = covered m h in
-      let is = l.alone r.0 (s.sound r.0 r.1).holds r.2 in
-      subst (Contains kept) is r.1);
+  each = λ m. (
+    s.sound m,
+    λ l.
+        let h = l.holds in
+        let r = covered m h in
+        let is = l.alone r.0 (s.sound r.0 r.1).holds r.2 in
+        subst (Contains kept) is r.1,
+  );
   covers = covered;
 } where
   covered : (m : ℕ) → Contains xs m → IsCovered kept m

@@ -21,7 +21,7 @@ AreChanges fan groups s rays [] steps = steps ≡ []
 AreChanges fan groups s rays (f ∷ fs) steps =
     ((f.side ≡ boundary) × AreChanges fan groups s rays fs steps)
     ⊎ ((to : ℕ) × (matched : Bool) × (step : StepValue) × (rest : List StepValue) × (f.side ≡ inner to matched) × (steps ≡ step ∷ rest)
-        × IsChangeTo fan groups s rays f.normal to step × AreChanges fan groups s rays fs rest)
+    × IsChangeTo fan groups s rays f.normal to step × AreChanges fan groups s rays fs rest)
 
 pub record IsBunchAlone (fan : Fan) (groups : List Group) (c : Chamber) (b : BunchValue) : Type 0 where
   pub set : Signature

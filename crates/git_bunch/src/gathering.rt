@@ -48,11 +48,7 @@ pub(crate) fn only_on(
 }
 
 /// The minimal ones of the faces that are stable for a set, from the greatest down.
-pub(crate) fn minimal_of(
-    alloc: Global,
-    groups: &[Group],
-    set: &Sig,
-) -> Result<Vec<u16>, NoMemory>
+pub(crate) fn minimal_of(alloc: Global, groups: &[Group], set: &Sig) -> Result<Vec<u16>, NoMemory>
     requires { length groups.now < 2 ^ 32 }
     ensures { IfOk result (λ v. (F : Family) → AreGroups F groups.now → AreDescending (Minimal F set.now) v.items) }
 {

@@ -72,12 +72,7 @@ pub(crate) fn columns_along(k: usize, columns: &[IVec], ray: &IVec) -> u16
 }
 
 /// For each ray the columns along it.
-fn all_along(
-    alloc: Global,
-    k: usize,
-    columns: &[IVec],
-    rays: &[IVec],
-) -> Result<Vec<u16>, NoMemory>
+fn all_along(alloc: Global, k: usize, columns: &[IVec], rays: &[IVec]) -> Result<Vec<u16>, NoMemory>
     requires columns { All (IsShort k) columns.now }
     requires few { length columns.now ≤ 16 }
     ensures { IfOk result (λ v. AreZipped (λ r. Selects (IsAlong r) columns.now) rays.now v.items) }

@@ -1,14 +1,13 @@
 use Rattle.std.proofs.Common.{◌≡◌, ◌<◌, ◌^◌, ◌+◌, List, ap, arith, get_or, length, map, subst, sym, take}
-use Rattle.std.specs.Prelude.{All}
 use Rattle.std.specs.List.{AllZip}
-use Rattle.std.proofs.lemmas.List.{get_or-map, length-map, take_all}
+use Rattle.std.proofs.lemmas.List.{take_all}
 use Rattle.git_lemmas.proofs.Members.{all_member}
 use Rattle.git_listing.specs.Listings.{Chamber}
 use Rattle.git_listing.specs.Views.{chamber_of}
 use Rattle.git_listing.specs.declared.listing.ListedChamber.{ListedChamber}
 use Rattle.git_bunch.specs.declared.groups.Group.{Group}
 use Rattle.git_bunch.specs.declared.values.Bunch.{Bunch}
-use Rattle.git_bunch.specs.Bunches.{AreCrossed, IsSizedChamber}
+use Rattle.git_bunch.specs.Bunches.{AreCrossed}
 use Rattle.git_bunch.specs.Changes.{IsBunchAlone}
 use Rattle.git_bunch.specs.Stable.{family}
 use Rattle.git_bunch.specs.Views.{bunch_of}

@@ -1,6 +1,5 @@
 use Rattle.std.proofs.Common.{◌≡◌, ◌∙◌, ◌+◌, ◌++◌, Global, List, Vec, ap, arith, length, subst, sym, ℕ}
 use Rattle.git_bunch.specs.Groups.{IsOnly}
-use Rattle.git_bunch.specs.Stable.{AreDescending}
 use Rattle.git_bunch.specs.declared.groups.Group.{Group}
 use Rattle.git_bunch.proofs.Gathers.{Gathered, gathered_less, gathered_more, gathered_none, only_falling}
 use Rattle.git_bunch.proofs.gathering.only_on.Goals.{then-is_only+in_ok-extend, else-is_only}

@@ -17,8 +17,8 @@ returns c =
     let all = c.in_ok-all.all.items in
     let least = c.in_ok-least.least.items in
     let by : (m : ℕ) → Contains c.args.free.now m → HasKey c.in_ok-key.key.held c.in_ok-key.key.along.items m ↔ SameSet (Cut k d.facets) (face_cone k Q m) = λ m h.
-        cone_by_key k Q d.rays d.facets (short_length k Q c.requires.columns) c.in_ok-key.ensures.canon m c.in_ok-key.key.held c.in_ok-key.key.along.items
-        (all_member (λ (n : ℕ). n < 2 ^ length Q) m c.args.free.now c.requires.faces.in_range (as_member c.args.free.now h)) c.in_ok-key.ensures.key in
+    cone_by_key k Q d.rays d.facets (short_length k Q c.requires.columns) c.in_ok-key.ensures.canon m c.in_ok-key.key.held c.in_ok-key.key.along.items
+    (all_member (λ (n : ℕ). n < 2 ^ length Q) m c.args.free.now c.requires.faces.in_range (as_member c.args.free.now h)) c.in_ok-key.ensures.key in
     let are = subst (λ (l : List ℕ). AreLeastOf l least) c.deref.ensures.value c.in_ok-least.ensures in
     let each = c.in_ok-all.ensures in
     record {

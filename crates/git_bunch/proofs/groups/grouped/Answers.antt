@@ -1,9 +1,6 @@
-use Rattle.std.proofs.Common.{◌≡◌, ◌∙◌, ◌+◌, List, arith, subst, sym, ℕ}
-use Rattle.git_defs.specs.Vectors.{Vector}
-use Rattle.git_bunch.specs.declared.groups.Group.{Group}
-use Rattle.git_bunch.specs.Groups.{IsGroupOf}
+use Rattle.std.proofs.Common.{◌∙◌, ◌+◌, arith, subst, sym}
 use Rattle.git_bunch.specs.Stable.{family}
-use Rattle.git_bunch.proofs.Grouping.{GroupsBelow, all_groups, group_here, one_more_group}
+use Rattle.git_bunch.proofs.Grouping.{GroupsBelow, group_here, one_more_group}
 use Rattle.git_bunch.proofs.groups.grouped.Goals as goal
 
 pub group_of-requires-clause-entries : goal.group_of-requires-clause-entries

@@ -1,4 +1,4 @@
-use Rattle.std.proofs.Common.{List, subst, sym, ℕ}
+use Rattle.std.proofs.Common.{subst, sym}
 use Rattle.std.specs.Prelude.{Contains}
 use Rattle.git_bunch.specs.Stable.{AreDescending}
 use Rattle.git_bunch.proofs.Falling.{falling_of}

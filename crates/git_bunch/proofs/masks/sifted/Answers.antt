@@ -1,5 +1,5 @@
-use Rattle.std.proofs.Common.{◌≡◌, ◌∙◌, ◌+◌, ◌-◌, ◌<◌, ◌++◌, ◌∷◌, [], Bool, Global, List, Vec, ap, arith, false, get_or, length, not, refl, subst, sym, true, ℕ}
-use Rattle.std.specs.Prelude.{Contains, IsTrue}
+use Rattle.std.proofs.Common.{◌≡◌, ◌∙◌, ◌+◌, ◌-◌, ◌<◌, ◌++◌, ◌∷◌, [], Global, List, Vec, ap, arith, get_or, length, subst, sym, ℕ}
+use Rattle.std.specs.Prelude.{Contains}
 use Rattle.git_bits.specs.Bits.{IsWithin}
 use Rattle.git_bunch.proofs.Within.{IsCovered, Sifting, sifted_all, sifting_covered, sifting_kept}
 use Rattle.git_bunch.proofs.masks.sifted.Goals.{then-not-contains_one+in_ok-add, else-not-contains_one}

@@ -10,9 +10,11 @@ use Rattle.git_bunch.proofs.numbers.has_cone.Goals as goal
 pub returns-then-mask-columns_in : goal.returns-then-mask-columns_in
 returns-then-mask-columns_in c =
     let k = c.args.k in
-    let Q = c.args.columns.now in
-    (λ f. absurd (untrue f), λ same. absurd (c.if-mask-columns_in.true
-        (mask_within k Q c.args.cone.now.facets c.args.mask c.columns_in.result (short_length k Q c.requires.columns) c.requires.mask c.columns_in.ensures same)))
+    let Q = c.args.columns.now in (
+      λ f. absurd (untrue f),
+      λ same. absurd (c.if-mask-columns_in.true
+          (mask_within k Q c.args.cone.now.facets c.args.mask c.columns_in.result (short_length k Q c.requires.columns) c.requires.mask c.columns_in.ensures same)),
+    )
 
 pub returns : goal.returns
 returns c =

@@ -1,9 +1,8 @@
 use Rattle.std.proofs.Common.{List, arith, refl, subst, sym}
 use Rattle.git_defs.specs.Vectors.{Vector}
-use Rattle.git_orbit.specs.Keys.{Selects}
 use Rattle.std.proofs.lemmas.List.Elements.{All-more}
 use Rattle.std.proofs.lemmas.List.{take_all}
-use Rattle.git_bunch.specs.Keys.{IsAlong, MeetsRay, MeetsRays}
+use Rattle.git_bunch.specs.Keys.{MeetsRay, MeetsRays}
 use Rattle.git_bunch.proofs.Columns.{ray_is_met, ray_is_missed, untrue}
 use Rattle.git_bunch.proofs.numbers.meets_rays.Goals as goal
 

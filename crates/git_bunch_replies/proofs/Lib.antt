@@ -1,0 +1,3 @@
+mod Crossed
+mod Families
+pub mod Replied

@@ -1,0 +1,2 @@
+pub mod BunchCases
+pub mod Laws
