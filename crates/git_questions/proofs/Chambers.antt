@@ -12,12 +12,14 @@ use Rattle.git_covering.proofs.Short.{short_listing}
 use Rattle.git_answers.specs.Fan.{IsListingOf}
 
 module _ (v : InputValue) (fan : Fan) (l : Listing) (graph : IsGraph (record { fan = fan; columns = v.degrees.columns })) (is : IsListingOf v fan l) where
-  is_fan : IsFan fan.k fan.list
+  pub is_fan : IsFan fan.k fan.list
   is_fan = record { columns = v.degrees.columns; grading = graph.grading; masks = graph.cones.masks; faces = graph.cones.faces; cones = graph.cones.cones }
 
-  pub listed_short : AreShortCones l.k (cones_of l)
-  listed_short =
+  pub short_in_fan : AreShortCones fan.k (cones_of l)
+  short_in_fan =
       let g : Graph = record { fan = fan; columns = v.degrees.columns } in
       let first = subst (λ (k : ℕ). IsSignature fan (first_germ k v.degrees.columns) is.first) (sym is.opening.is_fan.k) is.opening.is_first in
-      subst (λ (k : ℕ). AreShortCones k (cones_of l)) (sym is.listing.k)
-      (short_listing fan is_fan is.first (length v.degrees.columns) l (first_legal g graph is.first first) is.listing)
+      short_listing fan is_fan is.first (length v.degrees.columns) l (first_legal g graph is.first first) is.listing
+
+  pub listed_short : AreShortCones l.k (cones_of l)
+  listed_short = subst (λ (k : ℕ). AreShortCones k (cones_of l)) (sym is.listing.k) short_in_fan

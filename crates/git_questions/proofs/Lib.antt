@@ -1,3 +1,4 @@
 pub mod Chambers
 pub mod Told
 pub mod AllCones
+pub mod Weighted

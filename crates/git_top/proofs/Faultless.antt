@@ -1,6 +1,6 @@
 -- No answer is a fault of reading, of writing or of memory.
 use Rattle.std.specs.Prelude.{true, false}
-use Rattle.std.proofs.Common.{◌≡◌, ◌⊎◌, ◌≤◌, ℕ, List, inl, inr, sym, ◌∙◌, ap, subst, arith, Option}
+use Rattle.std.proofs.Common.{◌≡◌, ◌⊎◌, ◌≤◌, ℕ, Bool, List, inl, inr, sym, ◌∙◌, ap, subst, arith, Option}
 use Rattle.git_base.specs.declared.status.Status.{Status}
 use Rattle.git_base.specs.declared.status.Status.TheVariants.{Usage, ReadFault, WriteFault, NoMemory}
 use Rattle.git_base.specs.Status.{code_of}
@@ -11,7 +11,7 @@ use Rattle.git_orbit.specs.Orbits as orbits
 use Rattle.git_listing.specs.Listings.{Listing}
 use Rattle.git_input.specs.Inputs.{InputValue}
 use Rattle.git_words.specs.declared.commands.Command.{Command}
-use Rattle.git_words.specs.declared.commands.Command.TheVariants.{Fan, Faces, Make, AllCones}
+use Rattle.git_words.specs.declared.commands.Command.TheVariants.{Fan, Faces, Make, AllCones, Locate, Bunch}
 use Rattle.git_replies.specs.Cases.{Case, Outcome}
 use Rattle.git_replies.specs.Reads.{reads}
 use Rattle.git_answers.specs.Verdicts.{StopsWith}
@@ -22,9 +22,14 @@ use Rattle.git_answers.specs.declared.output.Output.TheVariants.{Counted}
 use Rattle.git_answers.specs.Ends.{over, Ends, whole, cut, unread, starved, WritesOr}
 use Rattle.git_fan.proofs.NotGood.{written_done}
 use Rattle.git_cone_replies.specs.ConeCases.{cones_case}
-use Rattle.git_questions.specs.Questions.{tells_cones}
+use Rattle.git_defs.specs.Vectors.{Vector}
+use Rattle.git_weighted.specs.Reads.{reads_weighted}
+use Rattle.git_weight_replies.specs.WeightCases.{locate_case}
+use Rattle.git_bunch_replies.specs.BunchCases.{bunches_of, tells}
+use Rattle.git_questions.proofs.Weighted.{locate_status}
+use Rattle.git_questions.specs.Questions.{all_cones_of, locate_of, tells_cones}
 use Rattle.git_questions.proofs.AllCones.{cones_status}
-use Rattle.git_commands.specs.Commands.{cases_of, command_answer, output_of, reply_of, sample_options}
+use Rattle.git_commands.specs.Commands.{command_answer, makes, output_of, reply_of, sample_options}
 use Rattle.git_top.specs.Laws.{IsNoFault, NoAnswerIsAFault}
 
 -- the code is none of those of faults of reading, of writing and of memory
@@ -82,23 +87,34 @@ low_cones_of l o h = elim (cones_status l o h) [
   | inr (inr done) ↦ low_by _ _ done (inl (omega arith))
 ]
 
-low_cases : (c : Command) (v : InputValue) (o : Outcome) → cases_of c v o → IsOther o.status
-low_cases (Fan workers table steps certs) v o h = low_fan v (options table steps) o (output_of certs) h
-low_cases (Faces steps) v o h = low_faces steps v o h
-low_cases (Make sample false) v o h = along o _ h (inl (omega arith))
-low_cases (Make sample true) v o h = low_fan v sample_options o Counted h
-low_cases (AllCones table steps) v o h = low_listed v (options table steps) o tells_cones (λ fan l is. low_cones_of l o is) h
+low_weights_of : (ws : List Vector) (fan : orbits.Fan) (l : Listing) (o : Outcome) → locate_case ws fan l o → IsOther o.status
+low_weights_of ws fan l o h = elim (locate_status ws fan l o h) [ inl wide ↦ low_by _ _ wide (inl (omega arith)) | inr done ↦ low_by _ _ done (inl (omega arith)) ]
 
-low_read : (c : Command) (bytes : List ℕ) (o : Outcome) → reads (cases_of c) bytes o → IsOther o.status
-low_read c bytes o (inl long) = along o _ long.1 (inl (omega arith))
-low_read c bytes o (inr (p, inl fault)) = along o _ fault.is (inl (omega arith))
-low_read c bytes o (inr (p, inr (q, input))) = low_cases c input.0 o input.2
+low_makes : (run : Bool) (v : InputValue) (o : Outcome) → makes run v o → IsOther o.status
+low_makes false v o h = along o _ h (inl (omega arith))
+low_makes true v o h = low_fan v sample_options o Counted h
+
+low_read : (cases : InputValue → Case) (bytes : List ℕ) (o : Outcome) → ((v : InputValue) → cases v o → IsOther o.status) → reads cases bytes o → IsOther o.status
+low_read cases bytes o low (inl long) = along o _ long.1 (inl (omega arith))
+low_read cases bytes o low (inr (p, inl fault)) = along o _ fault.is (inl (omega arith))
+low_read cases bytes o low (inr (p, inr (q, input))) = low input.0 input.2
+
+low_weighted : (cases : InputValue → List Vector → Case) (bytes : List ℕ) (o : Outcome) → ((v : InputValue) (ws : List Vector) → cases v ws o → IsOther o.status) → reads_weighted cases bytes o → IsOther o.status
+low_weighted cases bytes o low (inl (inl long)) = along o _ long.1 (inl (omega arith))
+low_weighted cases bytes o low (inl (inr (p, inl fault))) = along o _ fault.is (inl (omega arith))
+low_weighted cases bytes o low (inl (inr (p, inr (q, fault)))) = along o _ fault.is (inl (omega arith))
+low_weighted cases bytes o low (inr (p, w)) = low w.0 w.1 w.3
 
 low_command : (c : Command) (bytes : List ℕ) (o : Outcome) → command_answer c bytes o → IsOther o.status
-low_command (Fan workers table steps certs) bytes o h = low_read (Fan workers table steps certs) bytes o h
-low_command (Faces steps) bytes o h = low_read (Faces steps) bytes o h
-low_command (AllCones table steps) bytes o h = low_read (AllCones table steps) bytes o h
-low_command (Make sample run) bytes o h = low_cases (Make sample run) h.0 o h.2
+low_command (Fan workers table steps certs) bytes o h = low_read (fan_of (options table steps) (output_of certs)) bytes o (λ v d. low_fan v (options table steps) o (output_of certs) d) h
+low_command (Faces steps) bytes o h = low_read (faces_of steps) bytes o (λ v d. low_faces steps v o d) h
+low_command (Make sample run) bytes o h = low_makes run h.0 o h.2
+low_command (AllCones table steps) bytes o h =
+    low_read (all_cones_of (options table steps)) bytes o (λ v d. low_listed v (options table steps) o tells_cones (λ fan l is. low_cones_of l o is) d) h
+low_command (Locate table steps) bytes o h =
+    low_weighted (λ v ws. locate_of (options table steps) ws v) bytes o (λ v ws d. low_listed v (options table steps) o (locate_case ws) (λ fan l is. low_weights_of ws fan l o is) d) h
+low_command (Bunch table steps) bytes o h =
+    low_read (bunches_of (options table steps)) bytes o (λ v d. low_listed v (options table steps) o (tells v) (λ fan l is. along o _ is.2.2 (inl (omega arith))) d) h
 
 code_is : (s t : Status) → s ≡ t → code_of s ≡ code_of t
 code_is s t is = ap code_of is

@@ -14,6 +14,9 @@ use Rattle.git_orbit.specs.Signatures.{width_of}
 use Rattle.git_chamber.specs.Chambers.{IsNext}
 use Rattle.git_listing.specs.Listings.{Listing}
 use Rattle.git_cone_replies.specs.ConeCases.{too_many, wide_pair}
+use Rattle.git_defs.specs.Vectors.{Vector}
+use Rattle.git_weighted.specs.WeightedInputs.{IsWeightedInput}
+use Rattle.git_weight_replies.specs.WeightCases.{wide_weight}
 use Rattle.git_replies.specs.Cases.{Passes, HasOne, HasSome, Outcome}
 use Rattle.git_answers.specs.Verdicts.{IsFullFace, StopsWith, whole_face}
 use Rattle.git_answers.specs.Fan.{IsFanOf, IsListingOf, IsOpening, IsWideFace, IsBad}
@@ -76,6 +79,20 @@ HaveCones v = (fan : Fan) (l : Listing) → IsListingOf v fan l → Passes (too_
 abbrev pub ConesAreDone : Type 0
 ConesAreDone = (table steps : ℕ) (bytes : List ℕ) (v : InputValue) (o : Outcome) → length bytes ≤ INPUT_BYTES → IsInput bytes v → NothingRefuses v table steps → HaveCones v
     → command_answer (command.AllCones table steps) bytes o → o.status ≡ Done
+
+-- no weight is wide
+abbrev pub HavePlaces : InputValue → List Vector → Type 0
+HavePlaces v weights = (fan : Fan) (l : Listing) → IsListingOf v fan l → Passes (wide_weight weights fan)
+
+-- `locate` is done there, where the weights allow it
+abbrev pub WeightsAreDone : Type 0
+WeightsAreDone = (table steps : ℕ) (bytes : List ℕ) (v : InputValue) (weights : List Vector) (o : Outcome) → IsWeightedInput bytes v weights → NothingRefuses v table steps → HavePlaces v weights
+    → command_answer (command.Locate table steps) bytes o → o.status ≡ Done
+
+-- `bunch` is done there
+abbrev pub BunchesAreDone : Type 0
+BunchesAreDone = (table steps : ℕ) (bytes : List ℕ) (v : InputValue) (o : Outcome) → length bytes ≤ INPUT_BYTES → IsInput bytes v → NothingRefuses v table steps
+    → command_answer (command.Bunch table steps) bytes o → o.status ≡ Done
 
 -- `make` is done with a sample, and with its counts where nothing stands in the way of its listing
 pub record IsSampleDone (sample : Sample) (bytes : List ℕ) (v : InputValue) (o : Outcome) : Type 0 where
