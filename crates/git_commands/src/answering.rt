@@ -12,9 +12,13 @@ ghost use Rattle.git_commands.specs.Commands.{output_of, reply_of};
 use crate::faces::certified;
 use git_answers::Output;
 use git_base::{Source, Status};
+use git_bunch_replies::bunch_answer;
 use git_crew::Gate;
 use git_fan::{fan_alone, fan_together};
+use git_questions::cones_answer;
 use git_replies::{Reading, Reply, Unanswered, read};
+use git_weight_replies::locate_answer;
+use git_weighted::{WeightedReading, read as read_weighted};
 use git_words::{Command, STEPS, TABLE, WORKERS};
 use std::alloc::Global;
 use std::marker::Sync;
@@ -98,5 +102,75 @@ pub(crate) fn answer_faces<R: Threads + Sync, S: Source>(
     match read(alloc, source)? {
         Reading::Refused(reply) => Ok(reply),
         Reading::Input(input) => Ok(certified(rt, alloc, &input, steps)?),
+    }
+}
+
+/// The answer of `cones`.
+pub(crate) fn answer_cones<R: Threads + Sync, S: Source>(
+    rt: &R,
+    alloc: Global,
+    table: u32,
+    steps: u64,
+    source: &mut S,
+) -> Result<Reply, Unanswered>
+    requires table { (1 ≤ table) × (table ≤ TABLE) }
+    requires steps { (1 ≤ steps) × (steps ≤ STEPS) }
+    ensures answers { IfOk result (λ a. over (S.left source.old) (reply_of (Command.AllCones table steps)) a.status a.text.items) }
+    ensures end { IfOk result (λ a. a.status ≡ Status.Done → IsAtEnd (S.left source.new)) }
+    ensures read { IsErrOf result Unanswered.ReadFault → HasRisen (S.faults source.old) (S.faults source.new) }
+    ensures lost { LosesPrefix (S.left source.old) (S.left source.new) }
+{
+    match read(alloc, source)? {
+        Reading::Refused(reply) => Ok(reply),
+        Reading::Input(input) => Ok(cones_answer(rt, alloc, &input, table, steps)?),
+    }
+}
+
+/// The answer of `bunch`.
+pub(crate) fn answer_bunches<R: Threads + Sync, S: Source>(
+    rt: &R,
+    alloc: Global,
+    table: u32,
+    steps: u64,
+    source: &mut S,
+) -> Result<Reply, Unanswered>
+    requires table { (1 ≤ table) × (table ≤ TABLE) }
+    requires steps { (1 ≤ steps) × (steps ≤ STEPS) }
+    ensures answers { IfOk result (λ a. over (S.left source.old) (reply_of (Command.Bunch table steps)) a.status a.text.items) }
+    ensures end { IfOk result (λ a. a.status ≡ Status.Done → IsAtEnd (S.left source.new)) }
+    ensures read { IsErrOf result Unanswered.ReadFault → HasRisen (S.faults source.old) (S.faults source.new) }
+    ensures lost { LosesPrefix (S.left source.old) (S.left source.new) }
+{
+    match read(alloc, source)? {
+        Reading::Refused(reply) => Ok(reply),
+        Reading::Input(input) => Ok(bunch_answer(rt, alloc, &input, table, steps)?),
+    }
+}
+
+/// The answer of `locate`.
+pub(crate) fn answer_weights<R: Threads + Sync, S: Source>(
+    rt: &R,
+    alloc: Global,
+    table: u32,
+    steps: u64,
+    source: &mut S,
+) -> Result<Reply, Unanswered>
+    requires table { (1 ≤ table) × (table ≤ TABLE) }
+    requires steps { (1 ≤ steps) × (steps ≤ STEPS) }
+    ensures answers { IfOk result (λ a. over (S.left source.old) (reply_of (Command.Locate table steps)) a.status a.text.items) }
+    ensures end { IfOk result (λ a. a.status ≡ Status.Done → IsAtEnd (S.left source.new)) }
+    ensures read { IsErrOf result Unanswered.ReadFault → HasRisen (S.faults source.old) (S.faults source.new) }
+    ensures lost { LosesPrefix (S.left source.old) (S.left source.new) }
+{
+    match read_weighted(alloc, source)? {
+        WeightedReading::Refused(reply) => Ok(reply),
+        WeightedReading::Text(text) => Ok(locate_answer(
+            rt,
+            alloc,
+            &text.input,
+            &text.weights,
+            table,
+            steps,
+        )?),
     }
 }

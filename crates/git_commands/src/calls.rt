@@ -10,7 +10,9 @@ ghost use Rattle.git_answers.specs.Ends.{over, WritesOr, Ends};
 ghost use Rattle.git_commands.specs.Commands.{reply_of};
 ghost use Rattle.git_replies.specs.Readings.{IsUnanswered};
 
-use crate::answering::{answer_alone, answer_faces, answer_together};
+use crate::answering::{
+    answer_alone, answer_bunches, answer_cones, answer_faces, answer_together, answer_weights,
+};
 use crate::sampling::sampled;
 use git_base::{Sink, Source, Status, write_all_of};
 use git_crew::Gate;
@@ -110,6 +112,75 @@ pub fn faces_run<R: Threads + Sync, S: Source, K: Sink>(
     ensures lost { LosesPrefix (S.left source.old) (S.left source.new) }
 {
     match answer_faces(rt, alloc, steps, source) {
+        Ok(reply) => write_text(sink, &reply.text, reply.status),
+        Err(why) => unanswered(why),
+    }
+}
+
+/// Writes all cones of the chambers of the input that the source has left, and whether these form a fan. At
+/// most `table` signatures and `steps` steps of each face's run are allowed. It always returns.
+pub fn cones_run<R: Threads + Sync, S: Source, K: Sink>(
+    rt: &R,
+    alloc: Global,
+    table: u32,
+    steps: u64,
+    source: &mut S,
+    sink: &mut K,
+) -> Status
+    requires table { (1 ≤ table) × (table ≤ TABLE) }
+    requires steps { (1 ≤ steps) × (steps ≤ STEPS) }
+    ensures answers { Ends (over (S.left source.old) (reply_of (Command.AllCones table steps))) (HasRisen (S.faults source.old) (S.faults source.new)) (HasRisen (K.faults sink.old) (K.faults sink.new))
+        (K.written sink.old) (K.written sink.new) result }
+    ensures end { result ≡ Status.Done → IsAtEnd (S.left source.new) }
+    ensures lost { LosesPrefix (S.left source.old) (S.left source.new) }
+{
+    match answer_cones(rt, alloc, table, steps, source) {
+        Ok(reply) => write_text(sink, &reply.text, reply.status),
+        Err(why) => unanswered(why),
+    }
+}
+
+/// Writes where the weights lie that follow the input which the source has left: the cones that hold each, the
+/// least face that does, and the chambers. At most `table` signatures and `steps` steps of each face's run are allowed. It always returns.
+pub fn locate_run<R: Threads + Sync, S: Source, K: Sink>(
+    rt: &R,
+    alloc: Global,
+    table: u32,
+    steps: u64,
+    source: &mut S,
+    sink: &mut K,
+) -> Status
+    requires table { (1 ≤ table) × (table ≤ TABLE) }
+    requires steps { (1 ≤ steps) × (steps ≤ STEPS) }
+    ensures answers { Ends (over (S.left source.old) (reply_of (Command.Locate table steps))) (HasRisen (S.faults source.old) (S.faults source.new)) (HasRisen (K.faults sink.old) (K.faults sink.new))
+        (K.written sink.old) (K.written sink.new) result }
+    ensures end { result ≡ Status.Done → IsAtEnd (S.left source.new) }
+    ensures lost { LosesPrefix (S.left source.old) (S.left source.new) }
+{
+    match answer_weights(rt, alloc, table, steps, source) {
+        Ok(reply) => write_text(sink, &reply.text, reply.status),
+        Err(why) => unanswered(why),
+    }
+}
+
+/// Writes the bunches of the chambers of the input that the source has left, and what is lost and gained behind
+/// each wall. At most `table` signatures and `steps` steps of each face's run are allowed. It always returns.
+pub fn bunch_run<R: Threads + Sync, S: Source, K: Sink>(
+    rt: &R,
+    alloc: Global,
+    table: u32,
+    steps: u64,
+    source: &mut S,
+    sink: &mut K,
+) -> Status
+    requires table { (1 ≤ table) × (table ≤ TABLE) }
+    requires steps { (1 ≤ steps) × (steps ≤ STEPS) }
+    ensures answers { Ends (over (S.left source.old) (reply_of (Command.Bunch table steps))) (HasRisen (S.faults source.old) (S.faults source.new)) (HasRisen (K.faults sink.old) (K.faults sink.new))
+        (K.written sink.old) (K.written sink.new) result }
+    ensures end { result ≡ Status.Done → IsAtEnd (S.left source.new) }
+    ensures lost { LosesPrefix (S.left source.old) (S.left source.new) }
+{
+    match answer_bunches(rt, alloc, table, steps, source) {
         Ok(reply) => write_text(sink, &reply.text, reply.status),
         Err(why) => unanswered(why),
     }

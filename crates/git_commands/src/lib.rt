@@ -6,4 +6,6 @@ mod calls;
 mod faces;
 mod sampling;
 
-pub use calls::{faces_run, fan_crew, fan_plain, make_run, write_text};
+pub use calls::{
+    bunch_run, cones_run, faces_run, fan_crew, fan_plain, locate_run, make_run, write_text,
+};

@@ -1,11 +1,10 @@
 //! The answer of `make`.
 ghost use Rattle.std.specs.Prelude.{◌≡◌, ℕ, List, IfOk};
 ghost use Rattle.git_words.specs.Laws.{IsSampleInRange};
-ghost use Rattle.git_words.specs.declared.commands.Sample.{Sample};
 ghost use Rattle.git_words.specs.declared.commands.Command.{Command};
 ghost use Rattle.git_make.specs.Samples.{IsSample};
 ghost use Rattle.git_answers.specs.Ends.{spelled};
-ghost use Rattle.git_commands.specs.Commands.{cases_of, reply_of};
+ghost use Rattle.git_commands.specs.Commands.{makes, reply_of};
 
 use git_answers::Output;
 use git_base::{NoMemory, Status};
@@ -37,7 +36,7 @@ fn answer_to_sample<R: Threads + Sync>(
     input: &Input,
     run: bool,
 ) -> Result<Reply, NoMemory>
-    ensures { (s : Sample) → IfOk result (λ a. spelled input.now (cases_of (Command.Make s run) input.now) a.status a.text.items) }
+    ensures { IfOk result (λ a. spelled input.now (makes run input.now) a.status a.text.items) }
 {
     if run {
         let (table, steps) = (TABLE_UNSET, STEPS_UNSET);

@@ -1,5 +1,5 @@
 -- What nothing refuses is done.
-use Rattle.std.proofs.Common.{◌≡◌, ◌∙◌, ap, subst, arith}
+use Rattle.std.proofs.Common.{◌≡◌, ◌∙◌, List, ap, subst, arith}
 use Rattle.git_input.specs.Inputs.{InputValue}
 use Rattle.git_text.proofs.Matrices.{text_is_a_grading}
 use Rattle.git_replies.specs.Cases.{Outcome, Passes, ◌otherwise◌}
@@ -13,8 +13,15 @@ use Rattle.git_answers.specs.Verdicts.{whole_face}
 use Rattle.git_base.specs.declared.status.Status.TheVariants.{Done}
 use Rattle.git_grading.specs.Gradings.{IsGrading}
 use Rattle.git_make.proofs.Inputs.{one_input, samples_are_inputs}
+use Rattle.git_cone_replies.specs.ConeCases.{judges, tells, too_many, wide_pair}
+use Rattle.git_defs.specs.Vectors.{Vector}
+use Rattle.git_weighted.specs.Reads.{no_weighted_input, of_weighted_input}
+use Rattle.git_weighted.proofs.WeightedTexts.{one_weighted, weighted_passes}
+use Rattle.git_weight_replies.specs.WeightCases.{locate_case, locates, wide_weight}
+use Rattle.git_bunch_replies.specs.BunchCases as bunches
+use Rattle.git_questions.specs.Questions.{all_cones_of, locate_of, tells_cones}
 use Rattle.git_commands.specs.Commands.{output_of, sample_options}
-use Rattle.git_top.specs.Laws.{FacesAreDone, InputsAreDone, NothingRefuses, SamplesAreDone}
+use Rattle.git_top.specs.Laws.{BunchesAreDone, ConesAreDone, FacesAreDone, InputsAreDone, NothingRefuses, SamplesAreDone, WeightsAreDone}
 use Rattle.git_fan.proofs.NotGood.{written_done}
 use Rattle.git_answers.proofs.OneFan.{whole_full}
 use Rattle.git_fan.proofs.Opens.{neither}
@@ -43,6 +50,32 @@ pub inputs_are_done : InputsAreDone
 inputs_are_done workers table steps certs bytes v o few is none h =
     let n : Options = options table steps in
     fan_done v n (output_of certs) o (text_is_a_grading is.matrix_lines v.degrees is.matrix) none (reads_input (fan_of n (output_of certs)) bytes v o few is h)
+
+pub cones_are_done : ConesAreDone
+cones_are_done table steps bytes v o few is none have h =
+    let n : Options = options table steps in
+    let l = later (refuses n v) (lists tells_cones v) o (nothing_refused v n (text_is_a_grading is.matrix_lines v.degrees is.matrix) none) (reads_input (all_cones_of n) bytes v o few is h) in
+    let passed = have l.0 l.1 l.2 in
+    let judged = later (too_many l.1) (judges l.1) o passed.0 l.3 in
+    let told = later (wide_pair l.1) (tells l.1) o passed.1 judged in
+    ap (λ (p : Outcome). p.status) told.4
+
+pub weights_are_done : WeightsAreDone
+weights_are_done table steps bytes v ws o is none have h =
+    let n : Options = options table steps in
+    let i = is.front.input in
+    let w = later (no_weighted_input bytes) (of_weighted_input bytes (λ v ws. locate_of n ws v)) o (weighted_passes bytes v ws is) h in
+    let same = one_weighted bytes w.0 v w.1 ws w.2 is in
+    let here = subst (λ (x : InputValue). locate_of n ws x o) same.0 (subst (λ (xs : List Vector). locate_of n xs w.0 o) same.1 w.3) in
+    let l = later (refuses n v) (lists (locate_case ws) v) o (nothing_refused v n (text_is_a_grading i.matrix_lines v.degrees i.matrix) none) here in
+    let told = later (wide_weight ws l.0) (locates ws l.0 l.1) o (have l.0 l.1 l.2) l.3 in
+    ap (λ (p : Outcome). p.status) told.2
+
+pub bunches_are_done : BunchesAreDone
+bunches_are_done table steps bytes v o few is none h =
+    let n : Options = options table steps in
+    let l = later (refuses n v) (lists (bunches.tells v) v) o (nothing_refused v n (text_is_a_grading is.matrix_lines v.degrees is.matrix) none) (reads_input (bunches.bunches_of n) bytes v o few is h) in
+    ap (λ (p : Outcome). p.status) l.3.2.2
 
 pub samples_are_done : SamplesAreDone
 samples_are_done sample bytes v o range is = record {

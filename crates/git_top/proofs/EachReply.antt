@@ -1,5 +1,5 @@
 -- Any words and any bytes have a reply, with its certificates.
-use Rattle.std.proofs.Common.{◌≡◌, ℕ, ◌^◌, ◌<◌, ◌≤◌, List, [], ◌∷◌, ◌++◌, length, map, inl, inr, refl, sym, ap, subst, le_refl, arith, Global}
+use Rattle.std.proofs.Common.{◌≡◌, ℕ, ◌^◌, ◌<◌, ◌≤◌, Bool, List, [], ◌∷◌, ◌++◌, length, map, inl, inr, refl, sym, ap, subst, le_refl, arith, Global}
 use Rattle.std.specs.Prelude.{AllPairs, Contains, true, false}
 use Rattle.std.specs.Global.{Vec}
 use Rattle.std.proofs.Math.Pow.{pow_mono}
@@ -18,6 +18,7 @@ use Rattle.git_faces.specs.FullFaces.{AreFullFaces}
 use Rattle.git_faces.proofs.FullLists.{some as full_list}
 use Rattle.git_faces.proofs.FirstStops.{some as first_or_all}
 use Rattle.git_faces.proofs.Certified.{certified}
+use Rattle.git_orbit.specs.Orbits.{Fan}
 use Rattle.git_listing.specs.Listings.{Listing}
 use Rattle.git_machine.specs.Signatures.{Signature}
 use Rattle.git_chamber.specs.declared.cell.Cell.{Cell}
@@ -29,7 +30,7 @@ use Rattle.git_text.proofs.GeneratorLines.{are_generators}
 use Rattle.git_words.specs.Words.{IsCommand}
 use Rattle.git_words.specs.Laws.{IsInRange}
 use Rattle.git_words.specs.declared.commands.Command.{Command}
-use Rattle.git_words.specs.declared.commands.Command.TheVariants.{Fan, Faces, Make}
+use Rattle.git_words.specs.declared.commands.Command.TheVariants as command
 use Rattle.git_words.proofs.OneCommand.{commands_are_in_range}
 use Rattle.git_make.proofs.Inputs.{samples_are_inputs}
 use Rattle.git_replies.specs.Cases.{Case, Tail, nothing, Outcome, Passes, says, ◌otherwise◌}
@@ -38,17 +39,23 @@ use Rattle.git_replies.specs.Reads.{reads}
 use Rattle.git_answers.specs.Ends.{IsTailOf}
 use Rattle.git_answers.specs.Verdicts.{IsFullFace, IsVerdict, AreVerdicts, IsTail, whole_face}
 use Rattle.git_answers.specs.Faces.{face_stops, faces_of}
-use Rattle.git_answers.specs.Fan.{Options, options, written, Refuses, has_monomial, whole_stops, not_good, after_cones, after_verdicts, after_whole, refuses, fan_of}
+use Rattle.git_answers.specs.Fan.{Options, options, written, Refuses, has_monomial, whole_stops, not_good, after_cones, after_verdicts, after_whole, refuses, listed_then, fan_of}
 use Rattle.git_answers.specs.declared.output.Output.{Output}
 use Rattle.git_answers.specs.declared.output.Output.TheVariants.{Plain, Certified, Counted}
 use Rattle.git_answers.proofs.OneFan.{whole_full}
 use Rattle.git_fan.proofs.FullFaces.{first_full}
-use Rattle.git_commands.specs.Commands.{cases_of, output_of, sample_options, InputOf, command_answer}
+use Rattle.git_questions.specs.Questions.{all_cones_of, locate_of, tells_cones}
+use Rattle.git_weighted.specs.Reads.{reads_weighted}
+use Rattle.git_weight_replies.specs.WeightCases.{locate_case}
+use Rattle.git_bunch_replies.specs.BunchCases.{bunches_of, tells}
+use Rattle.git_questions.proofs.Weighted.{locate_bare}
+use Rattle.git_questions.proofs.AllCones.{cones_bare}
+use Rattle.git_commands.specs.Commands.{makes, output_of, sample_options, InputOf, command_answer}
 use Rattle.git_top.specs.Run.{answer_to, InputFor}
 use Rattle.git_top.specs.Laws.{EachHasAReply}
 use Rattle.git_top.proofs.EachAnswer.{each_text_has_an_answer}
 use Rattle.git_top.proofs.FacesExist.{stop_of}
-use Rattle.git_top.proofs.FanExist.{whole_ends, all_run}
+use Rattle.git_top.proofs.FanExist.{runs_end, whole_ends}
 
 -- ---- a vector with these elements
 abbrev heap : Global
@@ -156,28 +163,24 @@ module _ (v : InputValue) where
     refuses_tail o (inl s) = none o _ _ s.2
     refuses_tail o (inr d) = whole_tail o (whole_ends v n g gens d.0) d.1
 
-    -- where nothing refuses, all runs end
-    runs_end : Passes (refuses n v) → (m : ℕ) → IsFullFace v m → RunEnds v.generators n.steps m
-    runs_end p =
-        let whole : Passes (whole_stops v n) = λ u w. p u (inl w) in
-        let monomial : Passes (has_monomial v) = λ u w. p u (inr (whole, inl w)) in
-        all_run v n g gens (whole_ends v n g gens whole) (λ u w. p u (inr (whole, inr (monomial, inl w))))
-
     written_tail : (output : Output) (l : Listing) → Passes (refuses n v) → HasTail (written output l).tail
     written_tail Plain l p = ([], refl)
-    written_tail Certified l p = certified_tail n.steps few g gens (runs_end p)
+    written_tail Certified l p = certified_tail n.steps few g gens (runs_end v n g gens p)
     written_tail Counted l p = ([], refl)
+
+    -- of a listing something is told with no certificates
+    listed_tail : (of_listing : Fan → Listing → Case) (o : Outcome) → ((fan : Fan) (l : Listing) → of_listing fan l o → o.tail ≡ nothing) → listed_then n of_listing v o → HasTail o.tail
+    listed_tail of_listing o bare (inl refused) = refuses_tail o refused
+    listed_tail of_listing o bare (inr (p, l)) = subst HasTail (sym (bare l.0 l.1 l.3)) ([], refl)
 
     fan_tail : (output : Output) (o : Outcome) → fan_of n output v o → HasTail o.tail
     fan_tail output o (inl refused) = refuses_tail o refused
     fan_tail output o (inr (p, l)) = along o (written output l.1) l.3 (written_tail output l.1 p)
 
 -- ---- commands
-cases_tail : (c : Command) (v : InputValue) (o : Outcome) → IsInRange c → IsGrading v.degrees.k v.degrees.columns → AreGenerators v.degrees v.generators → cases_of c v o → HasTail v o.tail
-cases_tail (Fan workers table steps certs) v o range g gens h = fan_tail v (options table steps) range.5 g gens (output_of certs) o h
-cases_tail (Faces steps) v o range g gens h = faces_tail v steps range.1 g gens o h
-cases_tail (Make sample false) v o range g gens h = none v o _ _ h
-cases_tail (Make sample true) v o range g gens h = fan_tail v sample_options (omega arith) g gens Counted o h
+makes_tail : (run : Bool) (v : InputValue) (o : Outcome) → IsGrading v.degrees.k v.degrees.columns → AreGenerators v.degrees v.generators → makes run v o → HasTail v o.tail
+makes_tail false v o g gens h = none v o _ _ h
+makes_tail true v o g gens h = fan_tail v sample_options (omega arith) g gens Counted o h
 
 module _ (words : List (List ℕ)) (bytes : List ℕ) where
   abbrev HasTold : Tail → Type 0
@@ -189,21 +192,43 @@ module _ (words : List (List ℕ)) (bytes : List ℕ) where
   input_told : (c : Command) (v : InputValue) (o : Outcome) → IsCommand words c → InputOf c bytes v → HasTail v o.tail → HasTold o.tail
   input_told c v o is told h = (h.0, inr (v, (c, is, told), h.1))
 
-  read_told : (c : Command) (o : Outcome) → IsCommand words c → ((v : InputValue) → IsInput bytes v → InputOf c bytes v) → reads (cases_of c) bytes o → HasTold o.tail
-  read_told c o is told (inl long) = none_told o _ _ long.1
-  read_told c o is told (inr (p, inl fault)) = none_told o _ _ fault.is
-  read_told c o is told (inr (p, inr (q, h))) =
+  read_told : (c : Command) (cases : InputValue → Case) (o : Outcome) → IsCommand words c → ((v : InputValue) → IsInput bytes v → InputOf c bytes v)
+      → ((v : InputValue) → IsGrading v.degrees.k v.degrees.columns → AreGenerators v.degrees v.generators → cases v o → HasTail v o.tail) → reads cases bytes o → HasTold o.tail
+  read_told c cases o is told tail (inl long) = none_told o _ _ long.1
+  read_told c cases o is told tail (inr (p, inl fault)) = none_told o _ _ fault.is
+  read_told c cases o is told tail (inr (p, inr (q, h))) =
       let i = h.1 in
-      input_told c h.0 o is (told h.0 i) (cases_tail c h.0 o (commands_are_in_range words c is)
-      (text_is_a_grading i.matrix_lines h.0.degrees i.matrix) (are_generators h.0.degrees i.ideal i.polynomials h.0.generators i.ideal_is i.polynomials_are) h.2)
+      input_told c h.0 o is (told h.0 i) (tail h.0 (text_is_a_grading i.matrix_lines h.0.degrees i.matrix) (are_generators h.0.degrees i.ideal i.polynomials h.0.generators i.ideal_is i.polynomials_are) h.2)
+
+  weights_told : (table steps : ℕ) (o : Outcome) → IsCommand words (command.Locate table steps) → steps ≤ STEPS → reads_weighted (λ v ws. locate_of (options table steps) ws v) bytes o → HasTold o.tail
+  weights_told table steps o is few (inl (inl long)) = none_told o _ _ long.1
+  weights_told table steps o is few (inl (inr (p, inl fault))) = none_told o _ _ fault.is
+  weights_told table steps o is few (inl (inr (p, inr (q, fault)))) = none_told o _ _ fault.is
+  weights_told table steps o is few (inr (p, w)) =
+      let i = w.2.front.input in
+      input_told (command.Locate table steps) w.0 o is (w.1, w.2) (
+      listed_tail w.0 (options table steps) few (text_is_a_grading i.matrix_lines w.0.degrees i.matrix) (are_generators w.0.degrees i.ideal i.polynomials w.0.generators i.ideal_is i.polynomials_are)
+      (locate_case w.1) o (λ fan l told. locate_bare w.1 fan l o told) w.3)
 
   command_told : (c : Command) (o : Outcome) → IsCommand words c → command_answer c bytes o → HasTold o.tail
-  command_told (Fan workers table steps certs) o is h = read_told (Fan workers table steps certs) o is (λ v i. i) h
-  command_told (Faces steps) o is h = read_told (Faces steps) o is (λ v i. i) h
-  command_told (Make sample run) o is h =
-      let range = commands_are_in_range words (Make sample run) is in
+  command_told (command.Fan workers table steps certs) o is h =
+      let c = command.Fan workers table steps certs in let range = commands_are_in_range words c is in
+      read_told c (fan_of (options table steps) (output_of certs)) o is (λ v i. i) (λ v g gens d. fan_tail v (options table steps) range.5 g gens (output_of certs) o d) h
+  command_told (command.Faces steps) o is h =
+      let range = commands_are_in_range words (command.Faces steps) is in
+      read_told (command.Faces steps) (faces_of steps) o is (λ v i. i) (λ v g gens d. faces_tail v steps range.1 g gens o d) h
+  command_told (command.AllCones table steps) o is h =
+      let range = commands_are_in_range words (command.AllCones table steps) is in
+      read_told (command.AllCones table steps) (all_cones_of (options table steps)) o is (λ v i. i) (λ v g gens d. listed_tail v (options table steps) range.3 g gens tells_cones o (λ fan l told. cones_bare l o told) d) h
+  command_told (command.Locate table steps) o is h = weights_told table steps o is (commands_are_in_range words (command.Locate table steps) is).3 h
+  command_told (command.Bunch table steps) o is h =
+      let range = commands_are_in_range words (command.Bunch table steps) is in
+      read_told (command.Bunch table steps) (bunches_of (options table steps)) o is (λ v i. i)
+      (λ v g gens d. listed_tail v (options table steps) range.3 g gens (tells v) o (λ fan l told. ap (λ (u : Outcome). u.tail) told.2.2) d) h
+  command_told (command.Make sample run) o is h =
+      let range = commands_are_in_range words (command.Make sample run) is in
       let input = samples_are_inputs sample h.0 range h.1 in
-      input_told (Make sample run) h.0 o is h.1 (cases_tail (Make sample run) h.0 o range input.0 input.1 h.2)
+      input_told (command.Make sample run) h.0 o is h.1 (makes_tail run h.0 o input.0 input.1 h.2)
 
   answer_told : (o : Outcome) → answer_to words bytes o → HasTold o.tail
   answer_told o (inl none) = none_told o _ _ none.1

@@ -257,12 +257,22 @@ module _ (v : InputValue) (n : Options) (g : IsGrading v.degrees.k v.degrees.col
       settled_of (has_monomial v) (other_stops v n otherwise after_verdicts n v) (monomial_settles e) (λ q.
       settled_of (other_stops v n) (after_verdicts n v) others_settle (λ r. verdicts_settle (all_run e r) (is_a_face e q))))
 
+  -- where nothing refuses, all runs end, and of each face it is decided whether it is an a-face
+  pub runs_end : Passes (refuses n v) → (m : ℕ) → IsFullFace v m → RunEnds v.generators n.steps m
+  runs_end p =
+      let whole : Passes (whole_stops v n) = λ u w. p u (inl w) in
+      let monomial : Passes (has_monomial v) = λ u w. p u (inr (whole, inl w)) in
+      all_run (whole_ends whole) (λ u w. p u (inr (whole, inr (monomial, inl w))))
+
+  pub decided : Passes (refuses n v) → (m : ℕ) → IsFullFace v m → IsAFace v.generators m ⊎ (IsAFace v.generators m → ⊥)
+  decided p m f = face_decided m f (runs_end p m f)
+
   -- what is answered of a listing, where each listing has an answer
-  pub listed_some : (of_listing : Fan → Listing → Case) → ((h : HasChambers v) → HasSome (of_listing h.fan h.listing)) → HasSome (listed_then n of_listing v)
+  pub listed_some : (of_listing : Fan → Listing → Case) → (Passes (refuses n v) → (h : HasChambers v) → HasSome (of_listing h.fan h.listing)) → HasSome (listed_then n of_listing v)
   listed_some of_listing some = elim refused_or_listed [
     | inl r ↦ (r.0, inl r.1)
-    | inr h ↦ (let s = some h.1 in (s.0, inr (h.0, (h.1.fan, h.1.listing, h.1.is, s.1))))
+    | inr h ↦ (let s = some h.0 h.1 in (s.0, inr (h.0, (h.1.fan, h.1.listing, h.1.is, s.1))))
   ]
 
   pub fan_some : (output : Output) → HasSome (fan_of n output v)
-  fan_some output = listed_some (writes output) (λ h. (written output h.listing, refl))
+  fan_some output = listed_some (writes output) (λ p h. (written output h.listing, refl))

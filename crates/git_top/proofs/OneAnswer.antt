@@ -1,5 +1,5 @@
 -- Words and bytes have one answer.
-use Rattle.std.proofs.Common.{◌≡◌, ◌≢◌, ◌∙◌, ℕ, ◌≤◌, List, length, refl, sym, ap, subst, arith}
+use Rattle.std.proofs.Common.{◌≡◌, ◌≢◌, ◌∙◌, ℕ, ◌≤◌, Bool, List, length, inl, inr, refl, sym, ap, subst, arith}
 use Rattle.std.specs.Prelude.{true, false}
 use Rattle.std.specs.declared.cmp.Ordering.{Ordering}
 use Rattle.std.specs.declared.cmp.Ordering.TheVariants.{Less, Equal, Greater}
@@ -20,7 +20,7 @@ use Rattle.git_chamber.proofs.Uniqueness.{one_cell}
 use Rattle.git_chamber.specs.declared.cell.Cell.{Cell}
 use Rattle.git_chamber.specs.declared.cell.Cell.TheVariants as cell
 use Rattle.git_assemble.proofs.OneListing.{one_listing}
-use Rattle.git_replies.specs.Cases.{Case, HasOne, IsFirst, says, ◌otherwise◌}
+use Rattle.git_replies.specs.Cases.{Case, HasOne, Passes, IsFirst, says, ◌otherwise◌}
 use Rattle.git_answers.specs.Verdicts.{StopsWith, StopsAt, whole_face}
 use Rattle.git_replies.specs.Lines.{stop_text, wide_face_text, table_wide_text}
 use Rattle.git_answers.specs.Fan.{Options, IsBad, IsRefused, Refuses, UpTo, IsWideFace, whole_stops, has_monomial, other_stops, wide_cone, table_wide, table_full, written, writes, not_good, lists, listed_then, after_cones, after_verdicts, after_whole, refuses, fan_of, options, IsListingOf}
@@ -36,7 +36,18 @@ use Rattle.git_words.proofs.OneCommand.{one_command}
 use Rattle.git_make.specs.Samples.{IsSample}
 use Rattle.git_make.proofs.Inputs.{one_input}
 use Rattle.git_text.specs.Writing.{input_text}
-use Rattle.git_commands.specs.Commands.{cases_of, output_of, sample_options, command_answer}
+use Rattle.git_cone_replies.proofs.AllAnswers.{one_answered}
+use Rattle.git_questions.specs.Questions.{all_cones_of, locate_of, tells_cones}
+use Rattle.git_questions.proofs.Weighted.{weighted_one}
+use Rattle.git_weight_replies.specs.WeightCases.{locate_case}
+use Rattle.git_weight_replies.proofs.WeightAnswers as place
+use Rattle.git_bunch_replies.specs.BunchCases.{bunches_of, tells}
+use Rattle.git_bunch_replies.proofs.Replied.{one_of_input}
+use Rattle.git_defs.specs.Vectors.{Vector}
+use Rattle.git_grading.specs.Gradings.{IsGrading}
+use Rattle.git_text.proofs.Matrices.{text_is_a_grading}
+use Rattle.git_answers.specs.Faces.{faces_of}
+use Rattle.git_commands.specs.Commands.{makes, output_of, sample_options, command_answer}
 use Rattle.git_top.specs.Run.{no_command}
 use Rattle.git_top.specs.Laws.{OneAnswer}
 use Rattle.git_answers.proofs.OneFan.{one_fan, opening_along}
@@ -109,24 +120,39 @@ lists_one : (v : InputValue) (of_listing : Fan → Listing → Case) → ((fan :
 lists_one v of_listing one x y a b = one b.0 b.1 b.2 x y (listing_along v a.0 b.0 a.1 b.1 (λ fan l. of_listing fan l x) a.2 b.2 a.3) b.3
 
 -- what is answered of a listing, where the listing has one answer
-listed_one : (v : InputValue) (n : Options) (of_listing : Fan → Listing → Case) → ((fan : Fan) (l : Listing) → IsListingOf v fan l → HasOne (of_listing fan l)) → HasOne (listed_then n of_listing v)
-listed_one v n of_listing one = one_of (refuses n v) (lists of_listing v) (refuses_one v n) (λ p. lists_one v of_listing one)
+listed_one : (v : InputValue) (n : Options) (of_listing : Fan → Listing → Case) → (Passes (refuses n v) → (fan : Fan) (l : Listing) → IsListingOf v fan l → HasOne (of_listing fan l)) → HasOne (listed_then n of_listing v)
+listed_one v n of_listing one = one_of (refuses n v) (lists of_listing v) (refuses_one v n) (λ p. lists_one v of_listing (one p))
 
 fan_one : (v : InputValue) (n : Options) (output : Output) → HasOne (fan_of n output v)
-fan_one v n output = listed_one v n (writes output) (λ fan l is. one_is (written output l))
+fan_one v n output = listed_one v n (writes output) (λ p fan l is. one_is (written output l))
 
 -- ---- commands
 
-cases_one : (c : Command) (v : InputValue) → HasOne (cases_of c v)
-cases_one (command.Fan workers table steps certs) v = fan_one v (options table steps) (output_of certs)
-cases_one (command.Faces steps) v = faces_one v steps
-cases_one (command.Make sample false) v = one_is (says status.Done (input_text v))
-cases_one (command.Make sample true) v = fan_one v sample_options Counted
+makes_one : (run : Bool) (v : InputValue) → HasOne (makes run v)
+makes_one false v = one_is (says status.Done (input_text v))
+makes_one true v = fan_one v sample_options Counted
+
+cones_one : (v : InputValue) (n : Options) → HasOne (all_cones_of n v)
+cones_one v n = listed_one v n tells_cones (λ p fan l is. one_answered l)
+
+-- where nothing refuses, the ideal has no monomial
+pub no_monomial : (v : InputValue) (n : Options) → Passes (refuses n v) → Passes (has_monomial v)
+no_monomial v n p o has = p o (inr ((λ u stop. p u (inl stop)), inl has))
+
+weights_one : (v : InputValue) (n : Options) (ws : List Vector) → IsGrading v.degrees.k v.degrees.columns → HasOne (locate_of n ws v)
+weights_one v n ws g = listed_one v n (locate_case ws) (λ p fan l is. place.one_answered ws fan l (place.some_cone v g fan (no_monomial v n p) is.opening.is_fan))
+
+bunches_one : (v : InputValue) (n : Options) → HasOne (bunches_of n v)
+bunches_one v n = listed_one v n (tells v) (λ p fan l is. one_of_input v fan l)
 
 command_one : (c : Command) (bytes : List ℕ) → HasOne (command_answer c bytes)
-command_one (command.Fan workers table steps certs) bytes = reads_one (cases_of (command.Fan workers table steps certs)) bytes (λ v is. cases_one (command.Fan workers table steps certs) v)
-command_one (command.Faces steps) bytes = reads_one (cases_of (command.Faces steps)) bytes (λ v is. cases_one (command.Faces steps) v)
-command_one (command.Make sample run) bytes = one_by (IsSample sample) (cases_of (command.Make sample run)) (one_input sample) (λ v. cases_one (command.Make sample run) v)
+command_one (command.Fan workers table steps certs) bytes = reads_one (fan_of (options table steps) (output_of certs)) bytes (λ v is. fan_one v (options table steps) (output_of certs))
+command_one (command.Faces steps) bytes = reads_one (faces_of steps) bytes (λ v is. faces_one v steps)
+command_one (command.Make sample run) bytes = one_by (IsSample sample) (makes run) (one_input sample) (makes_one run)
+command_one (command.AllCones table steps) bytes = reads_one (all_cones_of (options table steps)) bytes (λ v is. cones_one v (options table steps))
+command_one (command.Locate table steps) bytes =
+    weighted_one (λ v ws. locate_of (options table steps) ws v) bytes (λ v ws is. (let i = is.front.input in weights_one v (options table steps) ws (text_is_a_grading i.matrix_lines v.degrees i.matrix)))
+command_one (command.Bunch table steps) bytes = reads_one (bunches_of (options table steps)) bytes (λ v is. bunches_one v (options table steps))
 
 pub one_answer : OneAnswer
 one_answer words bytes =

@@ -1,8 +1,7 @@
 -- What holds of the answers.
-use Rattle.std.specs.Prelude.{◌≡◌, ℕ, ◌+◌, ◌*◌, ◌^◌, ◌≤◌, Bool, true, false, List, length}
+use Rattle.std.specs.Prelude.{◌≡◌, ◌≢◌, ℕ, ◌+◌, ◌*◌, ◌^◌, ◌≤◌, Bool, true, false, List, length}
 use Rattle.git_base.specs.declared.status.Status.{Status}
-use Rattle.git_base.specs.declared.status.Status.TheVariants.{Done}
-use Rattle.git_base.specs.Status.{code_of}
+use Rattle.git_base.specs.declared.status.Status.TheVariants.{Done, ReadFault, WriteFault, NoMemory}
 use Rattle.git_limits.specs.declared.TheConstants.{INPUT_BYTES}
 use Rattle.git_stages.specs.declared.wide.WideAt.{WideAt}
 use Rattle.git_ideals.specs.Faces.{IsAFace}
@@ -13,9 +12,14 @@ use Rattle.git_machine.specs.Reach.{ReachExceeds}
 use Rattle.git_orbit.specs.Orbits.{Fan}
 use Rattle.git_orbit.specs.Signatures.{width_of}
 use Rattle.git_chamber.specs.Chambers.{IsNext}
+use Rattle.git_listing.specs.Listings.{Listing}
+use Rattle.git_cone_replies.specs.ConeCases.{too_many, wide_pair}
+use Rattle.git_defs.specs.Vectors.{Vector}
+use Rattle.git_weighted.specs.WeightedInputs.{IsWeightedInput}
+use Rattle.git_weight_replies.specs.WeightCases.{wide_weight}
 use Rattle.git_replies.specs.Cases.{Passes, HasOne, HasSome, Outcome}
 use Rattle.git_answers.specs.Verdicts.{IsFullFace, StopsWith, whole_face}
-use Rattle.git_answers.specs.Fan.{IsFanOf, IsOpening, IsWideFace, IsBad}
+use Rattle.git_answers.specs.Fan.{IsFanOf, IsListingOf, IsOpening, IsWideFace, IsBad}
 use Rattle.git_words.specs.declared.commands.TheConstants.{TABLE_UNSET, STEPS_UNSET}
 use Rattle.git_words.specs.declared.commands.Sample.{Sample}
 use Rattle.git_words.specs.declared.commands.Command.TheVariants as command
@@ -36,13 +40,13 @@ EachHasAnAnswer = (words : List (List ℕ)) (bytes : List ℕ) → HasSome (answ
 abbrev pub EachHasAReply : Type 0
 EachHasAReply = (words : List (List ℕ)) (bytes : List ℕ) → (s : Status) × (text : List ℕ) × reply_to words bytes s text
 
--- the status has a code below those of faults of reading, of writing and of memory
-abbrev pub IsBelowFaults : Status → Type 0
-IsBelowFaults s = code_of s ≤ 10
+-- the status is no fault of reading, of writing or of memory
+abbrev pub IsNoFault : Status → Type 0
+IsNoFault s = (s ≢ ReadFault) × (s ≢ WriteFault) × (s ≢ NoMemory)
 
 -- and none of them is such a fault
 abbrev pub NoAnswerIsAFault : Type 0
-NoAnswerIsAFault = (words : List (List ℕ)) (bytes : List ℕ) (o : Outcome) → answer_to words bytes o → IsBelowFaults o.status
+NoAnswerIsAFault = (words : List (List ℕ)) (bytes : List ℕ) (o : Outcome) → answer_to words bytes o → IsNoFault o.status
 
 -- the run of each full face ends within the steps
 abbrev pub AllEnd : InputValue → ℕ → Type 0
@@ -66,6 +70,29 @@ pub record NothingRefuses (v : InputValue) (table steps : ℕ) : Type 0 where
 abbrev pub InputsAreDone : Type 0
 InputsAreDone = (workers table steps : ℕ) (certs : Bool) (bytes : List ℕ) (v : InputValue) (o : Outcome) → length bytes ≤ INPUT_BYTES → IsInput bytes v → NothingRefuses v table steps
     → command_answer (command.Fan workers table steps certs) bytes o → o.status ≡ Done
+
+-- the faces of the chambers aren't too many, and no pair that has to be compared is wide
+abbrev pub HaveCones : InputValue → Type 0
+HaveCones v = (fan : Fan) (l : Listing) → IsListingOf v fan l → Passes (too_many l) × Passes (wide_pair l)
+
+-- `cones` is done there, where the faces and the pairs allow it
+abbrev pub ConesAreDone : Type 0
+ConesAreDone = (table steps : ℕ) (bytes : List ℕ) (v : InputValue) (o : Outcome) → length bytes ≤ INPUT_BYTES → IsInput bytes v → NothingRefuses v table steps → HaveCones v
+    → command_answer (command.AllCones table steps) bytes o → o.status ≡ Done
+
+-- no weight is wide
+abbrev pub HavePlaces : InputValue → List Vector → Type 0
+HavePlaces v weights = (fan : Fan) (l : Listing) → IsListingOf v fan l → Passes (wide_weight weights fan)
+
+-- `locate` is done there, where the weights allow it
+abbrev pub WeightsAreDone : Type 0
+WeightsAreDone = (table steps : ℕ) (bytes : List ℕ) (v : InputValue) (weights : List Vector) (o : Outcome) → IsWeightedInput bytes v weights → NothingRefuses v table steps → HavePlaces v weights
+    → command_answer (command.Locate table steps) bytes o → o.status ≡ Done
+
+-- `bunch` is done there
+abbrev pub BunchesAreDone : Type 0
+BunchesAreDone = (table steps : ℕ) (bytes : List ℕ) (v : InputValue) (o : Outcome) → length bytes ≤ INPUT_BYTES → IsInput bytes v → NothingRefuses v table steps
+    → command_answer (command.Bunch table steps) bytes o → o.status ≡ Done
 
 -- `make` is done with a sample, and with its counts where nothing stands in the way of its listing
 pub record IsSampleDone (sample : Sample) (bytes : List ℕ) (v : InputValue) (o : Outcome) : Type 0 where

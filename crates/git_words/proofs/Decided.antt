@@ -10,15 +10,16 @@ use Rattle.git_lines.specs.Numbers.{natural}
 use Rattle.git_words.specs.declared.commands.TheConstants.{WORKERS, TABLE, STEPS, WORKERS_UNSET, TABLE_UNSET, STEPS_UNSET}
 use Rattle.git_words.specs.declared.commands.Sample.{Sample}
 use Rattle.git_words.specs.declared.commands.Sample.TheVariants.{Points, Plucker}
-use Rattle.git_words.specs.declared.commands.Command.TheVariants.{Fan, Faces, Make}
+use Rattle.git_words.specs.declared.commands.Command.{Command}
+use Rattle.git_words.specs.declared.commands.Command.TheVariants.{Fan, Faces, Make, AllCones, Locate, Bunch}
 use Rattle.git_words.specs.declared.settings.Setting.{Setting}
 use Rattle.git_words.specs.declared.settings.Setting.TheVariants.{Workers, Table, Steps, Certs}
-use Rattle.git_words.specs.Words.{IsNumberWord, IsNumberIn, Names, NamesNumber, Begins, AreSettings, IsGiven, IsFan, IsFaces, IsMake, NamesSample, given, workers_of, table_of, steps_of, certs_of}
+use Rattle.git_words.specs.Words.{IsNumberWord, IsNumberIn, Names, NamesNumber, Begins, AreSettings, IsGiven, IsFan, IsFaces, IsQuestion, IsMake, NamesSample, IsCommand, command_word, given, workers_of, table_of, steps_of, certs_of}
 use Rattle.git_words.specs.Laws.{CommandOrNone}
 use Rattle.git_words.proofs.Numbers.{one_number}
 use Rattle.git_words.proofs.OneSetting.{one_begin, one_list, are_by, begins_shorter}
 use Rattle.git_words.proofs.Samples.{make_run, make_plain, no_run, no_plain}
-use Rattle.git_words.proofs.OneCommand.{is_command, no_fan, no_faces, no_make, no_command}
+use Rattle.git_words.proofs.OneCommand.{is_command, no_fan, no_faces, no_make, no_cones, no_locate, no_bunch}
 
 -- ---- words and numbers
 
@@ -255,6 +256,32 @@ has_faces words = elim (has_settings (length words) words (omega arith)) [
   | inr none ↦ inr (λ s h. none h.settings h.are)
 ]
 
+abbrev HasQuestion : List (List ℕ) → Type 0
+HasQuestion words = ((t s : ℕ) × IsQuestion words t s) ⊎ ((t s : ℕ) → IsQuestion words t s → ⊥)
+
+question_by : (words : List (List ℕ)) (ss : List Setting) → AreSettings ss words → HasQuestion words
+question_by words ss are = elim (has_none (given workers_of ss)) [
+  | inr some ↦ inr (λ t s h. some (sym (ap (given workers_of) (same h.settings h.are)) ∙ h.no_workers))
+  | inl w ↦ elim (has_none (given certs_of ss)) [
+    | inr some ↦ inr (λ t s h. some (sym (ap (given certs_of) (same h.settings h.are)) ∙ h.no_certs))
+    | inl c ↦ elim (has_given (given table_of ss) TABLE_UNSET) [
+      | inr none ↦ inr (λ t s h. none t (given_by table_of h.settings ss TABLE_UNSET t (same h.settings h.are) h.gives_table))
+      | inl t ↦ elim (has_given (given steps_of ss) STEPS_UNSET) [
+        | inr none ↦ inr (λ u s h. none s (given_by steps_of h.settings ss STEPS_UNSET s (same h.settings h.are) h.gives_steps))
+        | inl s ↦ inl (t.0, s.0, record { settings = ss; are = are; no_workers = w; no_certs = c; gives_table = t.1; gives_steps = s.1 })
+      ]
+    ]
+  ]
+] where
+  same : (ts : List Setting) → AreSettings ts words → ts ≡ ss
+  same ts h = one_list ts ss words h are
+
+has_question : (words : List (List ℕ)) → HasQuestion words
+has_question words = elim (has_settings (length words) words (omega arith)) [
+  | inl h ↦ question_by words h.0 h.1
+  | inr none ↦ inr (λ t s h. none h.settings h.are)
+]
+
 -- ---- samples
 
 abbrev HasSample : List (List ℕ) → Type 0
@@ -355,24 +382,85 @@ has_make words = elim (ends_with_run words) [
 
 -- ---- commands
 
-pub command_or_none : CommandOrNone
-command_or_none [] = inr (no_command [] (λ rest e. cc e) (λ rest e. cc e) (λ rest e. cc e))
-command_or_none (w ∷ rest) = elim (same_word w (codes "fan")) [
-  | inl same ↦ elim (has_fan rest) [
-    | inl h ↦ inl (Fan h.0 h.1 h.2 h.3, is_command (Fan h.0 h.1 h.2 h.3) (w ∷ rest) rest (λ i. same i ∷ rest) h.4)
-    | inr none ↦ inr (no_fan (w ∷ rest) rest (λ i. same i ∷ rest) none)
-  ]
-  | inr no_fan ↦ elim (same_word w (codes "faces")) [
-    | inl same ↦ elim (has_faces rest) [
-      | inl h ↦ inl (Faces h.0, is_command (Faces h.0) (w ∷ rest) rest (λ i. same i ∷ rest) h.1)
-      | inr none ↦ inr (no_faces (w ∷ rest) rest (λ i. same i ∷ rest) none)
-    ]
-    | inr no_faces ↦ elim (same_word w (codes "make")) [
-      | inl same ↦ elim (has_make rest) [
-        | inl h ↦ inl (Make h.0 h.1, is_command (Make h.0 h.1) (w ∷ rest) rest (λ i. same i ∷ rest) h.2)
-        | inr none ↦ inr (no_make (w ∷ rest) rest (λ i. same i ∷ rest) none)
-      ]
-      | inr no_make ↦ inr (no_command (w ∷ rest) (λ us e. no_fan (first_word w (codes "fan") rest us e).0) (λ us e. no_faces (first_word w (codes "faces") rest us e).0) (λ us e. no_make (first_word w (codes "make") rest us e).0))
-    ]
-  ]
+-- what is known of the words after a first word
+abbrev Known : (words : List (List ℕ)) → List ℕ → Type 0
+Known words word = ((c : Command) × IsCommand words c) ⊎ ((c : Command) → command_word c ≡ word → IsCommand words c → ⊥)
+
+-- after this word, it is one of its commands or none
+with_word : (word : List ℕ) (words : List (List ℕ)) → ((rest : List (List ℕ)) → words ≡ word ∷ rest → Known words word) → Known words word
+with_word word [] known = inr (λ c same h. let e = h.begin in cc e)
+with_word word (w ∷ rest) known = elim (same_word w word) [
+  | inl same ↦ known rest (λ i. same i ∷ rest)
+  | inr other ↦ inr (λ c same h. other ((first_word w (command_word c) rest h.rest h.begin).0 ∙ same))
 ]
+
+-- a decision that excludes all commands
+all_none : (words : List (List ℕ)) (word : List ℕ) → ((c : Command) → IsCommand words c → ⊥) → Known words word
+all_none words word none = inr (λ c same h. none c h)
+
+fan_known : (words rest : List (List ℕ)) → words ≡ codes "fan" ∷ rest → Known words (codes "fan")
+fan_known words rest e = elim (has_fan rest) [
+  | inl h ↦ inl (Fan h.0 h.1 h.2 h.3, is_command (Fan h.0 h.1 h.2 h.3) words rest e h.4)
+  | inr none ↦ all_none words (codes "fan") (no_fan words rest e none)
+]
+
+faces_known : (words rest : List (List ℕ)) → words ≡ codes "faces" ∷ rest → Known words (codes "faces")
+faces_known words rest e = elim (has_faces rest) [
+  | inl h ↦ inl (Faces h.0, is_command (Faces h.0) words rest e h.1)
+  | inr none ↦ all_none words (codes "faces") (no_faces words rest e none)
+]
+
+make_known : (words rest : List (List ℕ)) → words ≡ codes "make" ∷ rest → Known words (codes "make")
+make_known words rest e = elim (has_make rest) [
+  | inl h ↦ inl (Make h.0 h.1, is_command (Make h.0 h.1) words rest e h.2)
+  | inr none ↦ all_none words (codes "make") (no_make words rest e none)
+]
+
+cones_known : (words rest : List (List ℕ)) → words ≡ codes "cones" ∷ rest → Known words (codes "cones")
+cones_known words rest e = elim (has_question rest) [
+  | inl h ↦ inl (AllCones h.0 h.1, is_command (AllCones h.0 h.1) words rest e h.2)
+  | inr none ↦ all_none words (codes "cones") (no_cones words rest e none)
+]
+
+locate_known : (words rest : List (List ℕ)) → words ≡ codes "locate" ∷ rest → Known words (codes "locate")
+locate_known words rest e = elim (has_question rest) [
+  | inl h ↦ inl (Locate h.0 h.1, is_command (Locate h.0 h.1) words rest e h.2)
+  | inr none ↦ all_none words (codes "locate") (no_locate words rest e none)
+]
+
+bunch_known : (words rest : List (List ℕ)) → words ≡ codes "bunch" ∷ rest → Known words (codes "bunch")
+bunch_known words rest e = elim (has_question rest) [
+  | inl h ↦ inl (Bunch h.0 h.1, is_command (Bunch h.0 h.1) words rest e h.2)
+  | inr none ↦ all_none words (codes "bunch") (no_bunch words rest e none)
+]
+
+pub command_or_none : CommandOrNone
+command_or_none words = elim (with_word (codes "fan") words (fan_known words)) [
+  | inl h ↦ inl h
+  | inr fan ↦ elim (with_word (codes "faces") words (faces_known words)) [
+    | inl h ↦ inl h
+    | inr faces ↦ elim (with_word (codes "make") words (make_known words)) [
+      | inl h ↦ inl h
+      | inr make ↦ elim (with_word (codes "cones") words (cones_known words)) [
+        | inl h ↦ inl h
+        | inr cones ↦ elim (with_word (codes "locate") words (locate_known words)) [
+          | inl h ↦ inl h
+          | inr locate ↦ elim (with_word (codes "bunch") words (bunch_known words)) [
+            | inl h ↦ inl h
+            | inr bunch ↦ inr (λ c h. by fan faces make cones locate bunch c h)
+          ]
+        ]
+      ]
+    ]
+  ]
+] where
+  None_of : List ℕ → Type 0
+  None_of word = (c : Command) → command_word c ≡ word → IsCommand words c → ⊥
+
+  by : None_of (codes "fan") → None_of (codes "faces") → None_of (codes "make") → None_of (codes "cones") → None_of (codes "locate") → None_of (codes "bunch") → (c : Command) → IsCommand words c → ⊥
+  by fan faces make cones locate bunch (Fan w t s certs) h = fan (Fan w t s certs) refl h
+  by fan faces make cones locate bunch (Faces n) h = faces (Faces n) refl h
+  by fan faces make cones locate bunch (Make s run) h = make (Make s run) refl h
+  by fan faces make cones locate bunch (AllCones t s) h = cones (AllCones t s) refl h
+  by fan faces make cones locate bunch (Locate t s) h = locate (Locate t s) refl h
+  by fan faces make cones locate bunch (Bunch t s) h = bunch (Bunch t s) refl h

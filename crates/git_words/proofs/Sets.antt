@@ -8,7 +8,7 @@ use Rattle.git_words.specs.declared.settings.Setting.{Setting}
 use Rattle.git_words.specs.declared.settings.Setting.TheVariants.{Workers, Table, Steps, Certs}
 use Rattle.git_words.specs.declared.options.Options.{Options}
 use Rattle.git_words.specs.declared.options.TheConstants.{UNSET}
-use Rattle.git_words.specs.Words.{Begins, AreSettings, Adds, AddsOne, IsTwice, SetsMore, IsFan, IsFaces, IsGiven, given, flag, workers_of, table_of, steps_of, certs_of}
+use Rattle.git_words.specs.Words.{Begins, AreSettings, Adds, AddsOne, IsTwice, SetsMore, SetsForFan, IsFan, IsFaces, IsQuestion, IsGiven, given, flag, workers_of, table_of, steps_of, certs_of}
 use Rattle.git_words.proofs.Numbers.{held, short_option, short_flag, one_given}
 use Rattle.git_words.proofs.OneSetting.{no_begin, one_begin, one_list, subst_begins, are_by}
 
@@ -137,6 +137,26 @@ not_only_steps words o more h steps k = by more (only_steps words steps o h k) w
   by (inr (inl some)) none = some none.1
   by (inr (inr some)) none = let e : false ≡ true = sym none.2 ∙ some in cc e
 
+-- ---- the words after a question
+
+pub question_adds : (words : List (List ℕ)) (table steps : ℕ) → IsQuestion words table steps → (o : Options) × Adds UNSET words o
+question_adds words table steps h =
+    let t = held (given table_of h.settings) TABLE_UNSET table h.gives_table in
+    let s = held (given steps_of h.settings) STEPS_UNSET steps h.gives_steps in (
+      record { workers = None; table = t.0; steps = s.0; certs = false },
+      record { settings = h.settings; are = h.are; workers = sym h.no_workers; table = t.1; steps = s.1; certs = sym h.no_certs },
+    )
+
+-- the options of `fan` alone are no words of a question
+pub not_for_fan : (words : List (List ℕ)) (o : Options) → SetsForFan o → Adds UNSET words o → (table steps : ℕ) → IsQuestion words table steps → ⊥
+not_for_fan words o more h table steps k = by more where
+  same : h.settings ≡ k.settings
+  same = one_list h.settings k.settings words h.are k.are
+
+  by : SetsForFan o → ⊥
+  by (inl some) = some (nothing_held o.workers (h.workers ∙ ap (given workers_of) same ∙ k.no_workers))
+  by (inr some) = let e : false ≡ true = sym (no_flag o.certs (h.certs ∙ ap (given certs_of) same ∙ k.no_certs)) ∙ some in cc e
+
 -- ---- one command
 
 pub one_fan : (words : List (List ℕ)) (a b c e f g : ℕ) (p q : Bool) → IsFan words a b c p → IsFan words e f g q → (a ≡ e) × (b ≡ f) × (c ≡ g) × (p ≡ q)
@@ -149,6 +169,13 @@ one_fan words a b c e f g p q h k =
     ) where
       moved : {A : Type 0} (gives : Setting → List A) (ss ts : List Setting) (default a : A) → ss ≡ ts → IsGiven (given gives ss) default a → IsGiven (given gives ts) default a
       moved gives ss ts default a e h = subst (λ us. IsGiven (given gives us) default a) e h
+
+pub one_question : (words : List (List ℕ)) (a b e f : ℕ) → IsQuestion words a b → IsQuestion words e f → (a ≡ e) × (b ≡ f)
+one_question words a b e f h k =
+    let same = one_list k.settings h.settings words k.are h.are in (
+      one_given _ _ _ _ h.gives_table (subst (λ us. IsGiven (given table_of us) TABLE_UNSET e) same k.gives_table),
+      one_given _ _ _ _ h.gives_steps (subst (λ us. IsGiven (given steps_of us) STEPS_UNSET f) same k.gives_steps),
+    )
 
 pub one_faces : (words : List (List ℕ)) (m n : ℕ) → IsFaces words m → IsFaces words n → m ≡ n
 one_faces words m n h k =

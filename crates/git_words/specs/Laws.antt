@@ -4,7 +4,7 @@ use Rattle.git_words.specs.declared.commands.TheConstants.{WORKERS, TABLE, STEPS
 use Rattle.git_words.specs.declared.commands.Sample.{Sample}
 use Rattle.git_words.specs.declared.commands.Sample.TheVariants.{Points, Plucker}
 use Rattle.git_words.specs.declared.commands.Command.{Command}
-use Rattle.git_words.specs.declared.commands.Command.TheVariants.{Fan, Faces, Make}
+use Rattle.git_words.specs.declared.commands.Command.TheVariants.{Fan, Faces, Make, AllCones, Locate, Bunch}
 use Rattle.git_words.specs.Words.{IsCommand}
 
 -- words spell one command at most
@@ -24,6 +24,9 @@ abbrev pub IsInRange : Command → Type 0
 IsInRange (Fan workers table steps certs) = (1 ≤ workers) × (workers ≤ WORKERS) × (1 ≤ table) × (table ≤ TABLE) × (1 ≤ steps) × (steps ≤ STEPS)
 IsInRange (Faces steps) = (1 ≤ steps) × (steps ≤ STEPS)
 IsInRange (Make sample run) = IsSampleInRange sample
+IsInRange (AllCones table steps) = (1 ≤ table) × (table ≤ TABLE) × (1 ≤ steps) × (steps ≤ STEPS)
+IsInRange (Locate table steps) = (1 ≤ table) × (table ≤ TABLE) × (1 ≤ steps) × (steps ≤ STEPS)
+IsInRange (Bunch table steps) = (1 ≤ table) × (table ≤ TABLE) × (1 ≤ steps) × (steps ≤ STEPS)
 
 -- the numbers of a command that is spelled are within the limits
 abbrev pub CommandsAreInRange : Type 0

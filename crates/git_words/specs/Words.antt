@@ -7,7 +7,7 @@ use Rattle.git_words.specs.declared.commands.TheConstants.{WORKERS, TABLE, STEPS
 use Rattle.git_words.specs.declared.commands.Sample.{Sample}
 use Rattle.git_words.specs.declared.commands.Sample.TheVariants.{Points, Plucker}
 use Rattle.git_words.specs.declared.commands.Command.{Command}
-use Rattle.git_words.specs.declared.commands.Command.TheVariants.{Fan, Faces, Make}
+use Rattle.git_words.specs.declared.commands.Command.TheVariants.{Fan, Faces, Make, AllCones, Locate, Bunch}
 use Rattle.git_words.specs.declared.settings.Setting.{Setting}
 use Rattle.git_words.specs.declared.settings.Setting.TheVariants.{Workers, Table, Steps, Certs}
 use Rattle.git_words.specs.declared.options.Options.{Options}
@@ -105,6 +105,15 @@ pub record IsFaces (words : List (List ℕ)) (steps : ℕ) : Type 0 where
   pub no_certs : given certs_of settings ≡ []
   pub gives_steps : IsGiven (given steps_of settings) STEPS_UNSET steps
 
+-- the words after a question about the chambers: `--table` and `--steps` alone may stand there
+pub record IsQuestion (words : List (List ℕ)) (table steps : ℕ) : Type 0 where
+  pub settings : List Setting
+  pub are : AreSettings settings words
+  pub no_workers : given workers_of settings ≡ []
+  pub no_certs : given certs_of settings ≡ []
+  pub gives_table : IsGiven (given table_of settings) TABLE_UNSET table
+  pub gives_steps : IsGiven (given steps_of settings) STEPS_UNSET steps
+
 -- the words that name a sample
 abbrev pub NamesSample : List (List ℕ) → Sample → Type 0
 NamesSample words (Points n seed) = (first second : List ℕ) × (words ≡ codes "points" ∷ first ∷ second ∷ []) × IsNumberIn 3 16 first n × IsNumberWord second seed
@@ -126,11 +135,17 @@ abbrev pub IsCommandAfter : Command → List (List ℕ) → Type 0
 IsCommandAfter (Fan workers table steps certs) rest = IsFan rest workers table steps certs
 IsCommandAfter (Faces steps) rest = IsFaces rest steps
 IsCommandAfter (Make sample run) rest = IsMake rest sample run
+IsCommandAfter (AllCones table steps) rest = IsQuestion rest table steps
+IsCommandAfter (Locate table steps) rest = IsQuestion rest table steps
+IsCommandAfter (Bunch table steps) rest = IsQuestion rest table steps
 
 abbrev pub command_word : Command → List ℕ
 command_word (Fan workers table steps certs) = codes "fan"
 command_word (Faces steps) = codes "faces"
 command_word (Make sample run) = codes "make"
+command_word (AllCones table steps) = codes "cones"
+command_word (Locate table steps) = codes "locate"
+command_word (Bunch table steps) = codes "bunch"
 
 -- the words spell the command
 pub record IsCommand (words : List (List ℕ)) (command : Command) : Type 0 where
@@ -170,3 +185,7 @@ IsTwice options setting =
 -- an option other than the steps is set
 abbrev pub SetsMore : Options → Type 0
 SetsMore options = (options.workers ≢ None) ⊎ ((options.table ≢ None) ⊎ (options.certs ≡ true))
+
+-- an option of `fan` alone is set
+abbrev pub SetsForFan : Options → Type 0
+SetsForFan options = (options.workers ≢ None) ⊎ (options.certs ≡ true)

@@ -42,4 +42,20 @@ pub enum Command {
         sample: Sample,
         run: bool,
     },
+    /// All cones of the chambers, and whether these form a fan: the most signatures, and the most steps of each
+    /// face's run.
+    AllCones {
+        table: u32,
+        steps: u64,
+    },
+    /// Where the weights after an input lie: the most signatures, and the most steps of each face's run.
+    Locate {
+        table: u32,
+        steps: u64,
+    },
+    /// The bunches of the chambers: the most signatures, and the most steps of each face's run.
+    Bunch {
+        table: u32,
+        steps: u64,
+    },
 }

@@ -1,6 +1,6 @@
 //! The options that words set.
 ghost use Rattle.std.specs.Prelude.{◌≡◌, IfSome, IsNone, MatchBool, None, false};
-ghost use Rattle.git_words.specs.Words.{words_of, Adds, AddsOne, IsTwice, SetsMore};
+ghost use Rattle.git_words.specs.Words.{words_of, Adds, AddsOne, IsTwice, SetsMore, SetsForFan};
 ghost use Rattle.git_words.specs.declared.options.TheConstants.{UNSET};
 
 use crate::settings::{Setting, first_setting};
@@ -74,4 +74,11 @@ pub(crate) fn sets_more(options: Options) -> bool
     ensures { MatchBool result (SetsMore options) ((options.workers ≡ None) × (options.table ≡ None) × (options.certs ≡ false)) }
 {
     options.workers.is_some() || options.table.is_some() || options.certs
+}
+
+/// Whether an option is set that `fan` alone has.
+pub(crate) fn sets_for_fan(options: Options) -> bool
+    ensures { MatchBool result (SetsForFan options) ((options.workers ≡ None) × (options.certs ≡ false)) }
+{
+    options.workers.is_some() || options.certs
 }

@@ -1,10 +1,10 @@
 //! The reader of the words.
 ghost use Rattle.std.specs.Prelude.{◌≡◌, ◌++◌, ℕ, List, Bool, IfSome, IsNone};
-ghost use Rattle.git_words.specs.Words.{words_of, IsFan, IsFaces, IsMake, IsCommand, IsCommandAfter, IsNumberWord, NamesSample};
-ghost use Rattle.git_words.specs.declared.commands.Command.TheVariants.{Fan, Faces, Make};
+ghost use Rattle.git_words.specs.Words.{words_of, IsFan, IsFaces, IsMake, IsQuestion, IsCommand, IsCommandAfter, IsNumberWord, NamesSample};
+ghost use Rattle.git_words.specs.declared.commands.Command.TheVariants.{Fan, Faces, Make, AllCones, Locate, Bunch};
 
 use crate::commands::{Command, STEPS_UNSET, Sample, TABLE_UNSET, WORKERS_UNSET};
-use crate::options::{read_options, sets_more};
+use crate::options::{read_options, sets_for_fan, sets_more};
 use crate::settings::number_in;
 
 /// What the words after `fan` ask for.
@@ -33,6 +33,46 @@ fn read_faces(words: &[&str]) -> Option<Command>
     Some(Command::Faces {
         steps: options.steps.unwrap_or(STEPS_UNSET),
     })
+}
+
+/// The most signatures and the most steps that the words after a question's own say.
+fn read_question(words: &[&str]) -> Option<(u32, u64)>
+    ensures some { IfSome result (λ r. IsQuestion (words_of words.now) r.0 r.1) }
+    ensures none { IsNone result → (table steps : ℕ) → IsQuestion (words_of words.now) table steps → ⊥ }
+{
+    let options = read_options(words)?;
+    if sets_for_fan(options) {
+        return None;
+    }
+    let table = options.table.unwrap_or(TABLE_UNSET);
+    Some((table, options.steps.unwrap_or(STEPS_UNSET)))
+}
+
+/// What the words after `cones` ask for.
+fn read_cones(words: &[&str]) -> Option<Command>
+    ensures some { IfSome result (λ c. (table steps : ℕ) × (c ≡ AllCones table steps) × IsQuestion (words_of words.now) table steps) }
+    ensures none { IsNone result → (table steps : ℕ) → IsQuestion (words_of words.now) table steps → ⊥ }
+{
+    let (table, steps) = read_question(words)?;
+    Some(Command::AllCones { table, steps })
+}
+
+/// What the words after `locate` ask for.
+fn read_locate(words: &[&str]) -> Option<Command>
+    ensures some { IfSome result (λ c. (table steps : ℕ) × (c ≡ Locate table steps) × IsQuestion (words_of words.now) table steps) }
+    ensures none { IsNone result → (table steps : ℕ) → IsQuestion (words_of words.now) table steps → ⊥ }
+{
+    let (table, steps) = read_question(words)?;
+    Some(Command::Locate { table, steps })
+}
+
+/// What the words after `bunch` ask for.
+fn read_bunch(words: &[&str]) -> Option<Command>
+    ensures some { IfSome result (λ c. (table steps : ℕ) × (c ≡ Bunch table steps) × IsQuestion (words_of words.now) table steps) }
+    ensures none { IsNone result → (table steps : ℕ) → IsQuestion (words_of words.now) table steps → ⊥ }
+{
+    let (table, steps) = read_question(words)?;
+    Some(Command::Bunch { table, steps })
 }
 
 /// The seed that the word stands for: one to nine digits.
@@ -87,6 +127,9 @@ pub fn read_words(words: &[&str]) -> Option<Command>
         ["fan", rest @ ..] => read_fan(rest),
         ["faces", rest @ ..] => read_faces(rest),
         ["make", rest @ ..] => read_make(rest),
+        ["cones", rest @ ..] => read_cones(rest),
+        ["locate", rest @ ..] => read_locate(rest),
+        ["bunch", rest @ ..] => read_bunch(rest),
         _ => None,
     }
 }

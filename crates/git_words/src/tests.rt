@@ -106,6 +106,32 @@ fn faces_with_steps(rt: HostRuntime) {
     );
 }
 
+#[test]
+fn questions_with_their_limits(rt: HostRuntime) {
+    let unset = Command::AllCones {
+        table: 4096,
+        steps: 20_000_000,
+    };
+    let both = Command::AllCones { table: 2, steps: 9 };
+    let located = Command::Locate {
+        table: 65_536,
+        steps: 20_000_000,
+    };
+    let bunches = Command::Bunch {
+        table: 4096,
+        steps: 20_000_000,
+    };
+    assert!(rt;
+        spell(&[
+            (&["cones"], unset),
+            (&["cones", "--table=2", "--steps", "9"], both),
+            (&["cones", "--steps=9", "--table", "2"], both),
+            (&["locate", "--table=65536"], located),
+            (&["bunch"], bunches),
+        ])
+    );
+}
+
 /// A sample, and whether it is run.
 fn made(sample: Sample, run: bool) -> Command {
     Command::Make { sample, run }
@@ -181,6 +207,15 @@ fn more_words_that_spell_nothing(rt: HostRuntime) {
     assert!(rt;
         spell_none(&[
             &["check"],
+            &["bunch", "bunch"],
+            &["locate", "--certs"],
+            &["locate", "1"],
+            &["cone"],
+            &["cones", "1"],
+            &["cones", "--certs"],
+            &["cones", "--workers", "2"],
+            &["cones", "--table=1", "--table=1"],
+            &["cones", "--steps", "0"],
             &["faces", "--certs"],
             &["faces", "--workers", "1"],
             &["faces", "--table=1"],

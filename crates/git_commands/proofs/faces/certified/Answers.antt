@@ -1,7 +1,5 @@
-use Rattle.std.proofs.Common.{◌≡◌, ◌∙◌, ap, sym, subst, List, ℕ, inl, inr, refl}
-use Rattle.std.specs.Prelude.{slice_get}
+use Rattle.std.proofs.Common.{◌∙◌, ap, subst, List, ℕ, inl, inr, refl}
 use Rattle.std.specs.List.{AllZip}
-use Rattle.git_facecert.specs.declared.certificate.FaceVerdict.{FaceVerdict}
 use Rattle.git_certtext.specs.CertificateText.{certificates_text}
 use Rattle.git_base.specs.declared.status.Status.TheVariants as statuses
 use Rattle.git_input.specs.Inputs.{InputValue}

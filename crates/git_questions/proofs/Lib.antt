@@ -1,0 +1,4 @@
+pub mod Chambers
+pub mod Told
+pub mod AllCones
+pub mod Weighted
