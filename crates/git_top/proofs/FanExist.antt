@@ -52,12 +52,13 @@ use Rattle.git_answers.proofs.OneFan.{one_fan, opening_along, whole_full}
 use Rattle.git_input_cones.specs.InputCones.{IsWideFault}
 use Rattle.git_input_cones.proofs.Openings.{HasOpening, wide_or_opens}
 
--- the fan of an input and its listing
+-- the fan of an input and its listing, and that it is decided which full faces are a-faces
 pub record HasChambers (v : InputValue) : Type 0 where
   pub fan : Fan
   pub graph : IsGraph (record { fan = fan; columns = v.degrees.columns })
   pub listing : Listing
   pub is : IsListingOf v fan listing
+  pub decided : (m : ℕ) → IsFullFace v m → IsAFace v.generators m ⊎ (IsAFace v.generators m → ⊥)
 
 module _ (v : InputValue) (n : Options) (g : IsGrading v.degrees.k v.degrees.columns) (gens : AreGenerators v.degrees v.generators) where
   -- one of the cases decides, or the chambers are listed
@@ -230,7 +231,7 @@ module _ (v : InputValue) (n : Options) (g : IsGrading v.degrees.k v.degrees.col
               let listing = a_listing fan first (length v.degrees.columns) xs opened.is_fan opened.legal l.reach all in
               inr (
                 (λ o h. (let there = opening_along v fan h.0 first h.1 (λ f s. AllGood f s) opened.opening h.2 all in good_not_refused h.0 h.3.0 o (there h.3.0 h.3.1.holds.0) h.3.2)),
-                record { fan = fan; graph = opened.graph; listing = listing.0; is = record { first = first; opening = opened.opening; listing = listing.1 } },
+                record { fan = fan; graph = opened.graph; listing = listing.0; is = record { first = first; opening = opened.opening; listing = listing.1 }; decided = decide },
               ))
         ]
 
