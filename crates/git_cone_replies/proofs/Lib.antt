@@ -1,1 +1,1 @@
-mod AllAnswers
+pub mod AllAnswers

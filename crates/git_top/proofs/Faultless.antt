@@ -148,7 +148,7 @@ thirteen h = omega (arith, h)
 -- a read fault that a command answers is one of its reads
 pub read_rose : (c : Command) (left : Option (List ℕ)) (read write : Type 0) (old new : Option (List ℕ)) (result : Status) → Ends (over left (reply_of c)) read write old new result → result ≡ ReadFault → read
 read_rose c left read write old new result (whole text d a) is =
-    absurd ((no_fault d.2.0.status (low_command c d.0 d.2.0 d.2.1)).0 (d.2.2.0 ∙ is))
+    absurd ((no_fault d.2.0.status (low_command c d.0 d.2.0 d.2.1)).0 (d.2.2 ∙ is))
 read_rose c left read write old new result (cut s text d front failed rose) is = absurd (twelve (apart WriteFault (sym failed ∙ is)))
 read_rose c left read write old new result (unread failed rose keeps) is = rose
 read_rose c left read write old new result (starved none keeps) is = absurd (thirteen (apart NoMemory (sym none ∙ is)))
